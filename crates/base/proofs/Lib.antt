@@ -1,0 +1,5 @@
+pub mod Cases
+pub mod Picks
+pub mod Below
+pub mod Parts
+pub mod Runs

@@ -1,0 +1,47 @@
+-- Laws of `pick`, of a refusal table, and of a call's outcome. Assumes nothing.
+use mathlib.Core.Path.{_≡_, refl, sym, ap, ap₂, _∙_}
+use mathlib.Core.Bool.{Bool, true, false, _||_}
+use mathlib.Core.List.{List, [], _∷_}
+use Prim.Native.Nat.{ℕ, suc}
+use native.Mathlib.Omega.{arith}
+use Rattle.base.specs.Pick.{pick}
+use Rattle.base.specs.Calls.{Refusal, _when_, firstOf, ExactlyOne}
+
+-- ---- pick
+
+pub pick-true {ℓ} : {A : Type ℓ} {b : Bool} (x y : A) → b ≡ true → pick b x y ≡ x
+unfolding pick
+pick-true {b = b} x y e = rw e refl
+
+pub pick-false {ℓ} : {A : Type ℓ} {b : Bool} (x y : A) → b ≡ false → pick b x y ≡ y
+unfolding pick
+pick-false {b = b} x y e = rw e refl
+
+-- what is 0 was not picked from the numbers that are not
+pub pick-zero : (b : Bool) (x k : ℕ) → pick b x (suc k) ≡ 0 → (b ≡ true) × (x ≡ 0)
+unfolding pick
+pick-zero true x k h = (refl, h)
+pick-zero false x k h = absurd (omega arith)
+
+-- ---- firstOf
+
+-- the row whose condition holds, where it comes first
+pub first-here : (b : Bool) (k : ℕ) (rs : List Refusal) → b ≡ true → firstOf (k when b ∷ rs) ≡ k
+unfolding firstOf
+first-here b k rs e = pick-true k (firstOf rs) e
+
+pub first-next : (b : Bool) (k : ℕ) (rs : List Refusal) → b ≡ false → firstOf (k when b ∷ rs) ≡ firstOf rs
+unfolding firstOf
+first-next b k rs e = pick-false k (firstOf rs) e
+
+-- 0 says that the condition of no row holds
+pub first-zero : (b : Bool) (k : ℕ) (rs : List Refusal) → firstOf (suc k when b ∷ rs) ≡ 0 → (b ≡ false) × (firstOf rs ≡ 0)
+unfolding firstOf pick
+first-zero true k rs h = absurd (omega arith)
+first-zero false k rs h = (refl, h)
+
+-- ---- one outcome
+
+-- an outcome that is given by an equation, and one that is given by two
+pub one-answer : {A : Type 0} (a : A) → ExactlyOne A (λ (o : A). o ≡ a)
+one-answer a = record { outcome = a; meets = refl; only = λ o e. e }

@@ -1,0 +1,4 @@
+pub mod Pick
+pub mod Run
+pub mod Bytes
+pub mod Calls

@@ -1,0 +1,86 @@
+use Rattle.rules.proofs.Places.{code-below}
+use Rattle.rules.specs.Ids.{idBytes}
+use native.Mathlib.Omega.{arith}
+use mathlib.Core.Path.{refl}
+use borrow.Author.Needs.{needs}
+use Rattle.layout.proofs.id_bytes.Statement.{statement}
+use Rattle.layout.proofs.id_bytes.Tie as tie
+use Rattle.layout.proofs.id_bytes.Reads as reads
+use Rattle.layout.proofs.id_bytes.Lts as lts
+use Rattle.layout.proofs.section_code.Reads as section-code-reads
+
+-- src/lib.rt:467:15
+sub-fsp : tie.Need-sub-fsp
+sub-fsp c = search needs
+
+-- src/lib.rt:468:17
+section-code-requires : tie.Need-section-code-requires
+section-code-requires c κs = search needs
+
+-- src/lib.rt:468:17
+mul-byte0 : tie.Need-mul-byte0
+mul-byte0 c = omega (arith, c .section-code .ensures, code-below (c .before .args .b .section))
+
+-- src/lib.rt:468:17
+add-byte0 : tie.Need-add-byte0
+add-byte0 c = omega (arith, c .section-code .ensures, code-below (c .before .args .b .section))
+
+-- src/lib.rt:469:17
+mul-byte1 : tie.Need-mul-byte1
+mul-byte1 c = search needs
+
+-- src/lib.rt:469:36
+mul-byte1-2 : tie.Need-mul-byte1-2
+mul-byte1-2 c = search needs
+
+-- src/lib.rt:469:17
+add-byte1 : tie.Need-add-byte1
+add-byte1 c = search needs
+
+-- src/lib.rt:469:46
+mul-byte1-3 : tie.Need-mul-byte1-3
+mul-byte1-3 c = search needs
+
+-- src/lib.rt:469:17
+add-byte1-2 : tie.Need-add-byte1-2
+add-byte1-2 c = search needs
+
+-- src/lib.rt:469:17
+add-byte1-3 : tie.Need-add-byte1-3
+add-byte1-3 c = search needs
+
+-- src/lib.rt:471:6
+cast-t15 : tie.Need-cast-t15
+cast-t15 c = omega (arith, c .before .before .section-code .ensures, code-below (c .before .before .before .args .b .section))
+
+-- src/lib.rt:471:19
+cast-t16 : tie.Need-cast-t16
+cast-t16 c = search needs
+
+-- src/lib.rt:471:32
+cast-t17 : tie.Need-cast-t17
+cast-t17 c = search needs
+
+-- src/lib.rt:461:1
+returns : tie.Need-returns
+unfolding idBytes
+returns c = rw (c .before .before .section-code .ensures) refl
+
+pub id-bytes-spec : {M : Type 1} → statement M
+id-bytes-spec =
+    tie.close
+    (tie.spec
+    sub-fsp
+    section-code-requires
+    mul-byte0
+    add-byte0
+    mul-byte1
+    mul-byte1-2
+    add-byte1
+    mul-byte1-3
+    add-byte1-2
+    add-byte1-3
+    cast-t15
+    cast-t16
+    cast-t17
+    returns)

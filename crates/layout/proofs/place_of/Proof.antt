@@ -1,0 +1,32 @@
+use Rattle.rules.specs.Places.{placeOf}
+use Rattle.base.specs.Pick.{pick}
+use borrow.Author.Tests.{lt-ltb, le-ltb}
+use mathlib.Core.Path.{refl}
+use borrow.Author.Needs.{needs}
+use Rattle.layout.proofs.place_of.Statement.{statement}
+use Rattle.layout.proofs.place_of.Tie as tie
+use Rattle.layout.proofs.place_of.Reads as reads
+use Rattle.layout.proofs.place_of.Lts as lts
+use Rattle.layout.proofs.blocks.Reads as blocks-reads
+use Rattle.layout.proofs.place_in.Reads as place-in-reads
+
+-- src/lib.rt:268:8
+blocks-requires : tie.Need-blocks-requires
+blocks-requires c κs = search needs
+
+-- src/lib.rt:269:9
+returns : tie.Need-returns
+unfolding placeOf pick
+returns c = rw (le-ltb _ _ (rw (c .before .blocks2 .ensures) at (c .if1 .taken))) refl
+
+-- src/lib.rt:271:21
+place-in-requires : tie.Need-place-in-requires
+place-in-requires c κs = search needs
+
+-- src/lib.rt:263:1
+returns-2 : tie.Need-returns-2
+unfolding placeOf pick
+returns-2 c = rw (lt-ltb _ _ (rw (c .before .before .blocks2 .ensures) at (c .before .if1 .left)), c .place-in .ensures) refl
+
+pub place-of-spec : {M : Type 1} → statement M
+place-of-spec = tie.close (tie.spec blocks-requires returns place-in-requires returns-2)

@@ -1,0 +1,36 @@
+use mathlib.Core.Path.{refl}
+use borrow.Author.Tests.{ne-eqb}
+use Rattle.rules.specs.Systems.{systemOf}
+use Rattle.base.specs.Pick.{pick}
+use Rattle.layout.proofs.system_of.Statement.{statement}
+use Rattle.layout.proofs.system_of.Tie as tie
+use Rattle.layout.proofs.system_of.Reads as reads
+use Rattle.layout.proofs.system_of.Lts as lts
+
+-- src/lib.rt:31:1
+returns : tie.Need-returns
+unfolding systemOf pick
+returns c = rw (c .match .keys1) refl
+
+-- src/lib.rt:31:1
+returns-2 : tie.Need-returns-2
+unfolding systemOf pick
+returns-2 c = rw (c .match .keys2) refl
+
+-- src/lib.rt:31:1
+returns-3 : tie.Need-returns-3
+unfolding systemOf pick
+returns-3 c = rw (c .match .keys3) refl
+
+-- src/lib.rt:31:1
+returns-4 : tie.Need-returns-4
+unfolding systemOf pick
+returns-4 c = rw (c .match .keys4) refl
+
+-- src/lib.rt:31:1
+returns-5 : tie.Need-returns-5
+unfolding systemOf pick
+returns-5 c = rw (ne-eqb _ _ (c .match .rest .0 .0 .0 .1), ne-eqb _ _ (c .match .rest .0 .0 .1), ne-eqb _ _ (c .match .rest .0 .1), ne-eqb _ _ (c .match .rest .1)) refl
+
+pub system-of-spec : {M : Type 1} → statement M
+system-of-spec = tie.close (tie.spec returns returns-2 returns-3 returns-4 returns-5)

@@ -1,0 +1,65 @@
+-- Laws of block IDs. Assumes nothing.
+use mathlib.Core.Path.{_≡_, refl, sym, ap, _∙_}
+use mathlib.Core.Bool.{Bool, true, false}
+use mathlib.Core.List.{List, [], _∷_}
+use Prim.Native.Nat.{ℕ, _+_, _*_, _-_, _/_, _%_, _<_}
+use native.Mathlib.Nat.{mod-eq-of-lt}
+use native.Mathlib.Omega.{arith}
+use lib.Dec.{T, eqb, ltb, eqb→eq}
+use lib.ListN.{length, getD}
+use borrow.Author.Tests.{lt-ltb, eq-eqb}
+use Rattle.base.specs.Pick.{pick}
+use Rattle.base.proofs.Picks.{pick-true}
+use Rattle.base.proofs.Below.{below-at}
+use Rattle.rules.specs.declared.BlockId.{BlockId}
+use Rattle.rules.specs.declared.IdAnswer.{IdAnswer}
+use Rattle.rules.specs.declared.IdAnswer.the-variants.{Named, Reserved, WrongLength}
+use Rattle.rules.specs.Places.{codeOf, sectionOf, place, entryAt}
+use Rattle.rules.specs.Ids.{sectionBits, dseqBits, fscBit, fspBit, dbnByte, channelOf, namedBy, idAnswer, fscOf, fspOf, idBytes, idAt}
+use Rattle.rules.proofs.Places.{section-code, code-below}
+
+-- ---- channelOf
+
+pub channel-bits : (h : ℕ) → h < 4 → channelOf (fscOf h) (fspOf h) ≡ h
+unfolding channelOf pick
+channel-bits h l = eqb→eq _ _ (below-at (λ k. eqb (channelOf (fscOf k) (fspOf k)) k) 4 tt h l)
+
+-- ---- idAnswer
+
+-- "Other bits are .. ignored on reading": the answer goes by the judged bits alone
+pub answer-judged : (a b : List ℕ) → length a ≡ length b → sectionBits a ≡ sectionBits b → getD a 1 0 / 4 ≡ getD b 1 0 / 4 → dbnByte a ≡ dbnByte b → idAnswer a ≡ idAnswer b
+unfolding idAnswer namedBy
+answer-judged a b l s c n =
+    let d : dseqBits a ≡ dseqBits b = omega arith in
+    let f : fscBit a ≡ fscBit b = omega arith in
+    let g : fspBit a ≡ fspBit b = omega arith in
+    rw (l, s, d, f, g, n) refl
+
+-- ---- idBytes
+
+-- the fields of a second byte
+module _ (q fsc fsp : ℕ) (hq : q < 16) (hc : fsc < 2) (hp : fsp < 2) where
+  second-dseq : (q % 16 * 16 + fsc * 8 + fsp * 4 + 3) / 16 ≡ q
+  second-dseq = omega (arith, mod-eq-of-lt hq)
+
+  second-fsc : (q % 16 * 16 + fsc * 8 + fsp * 4 + 3) / 8 % 2 ≡ fsc
+  second-fsc = omega (arith, mod-eq-of-lt hq)
+
+  second-fsp : (q % 16 * 16 + fsc * 8 + fsp * 4 + 3) / 4 % 2 ≡ fsp
+  second-fsp = omega (arith, mod-eq-of-lt hq)
+
+  pub second-judged : (q % 16 * 16 + fsc * 8 + fsp * 4 + 3) / 4 ≡ 4 * q + 2 * fsc + fsp
+  second-judged = omega (arith, mod-eq-of-lt hq)
+
+-- a written ID reads back to what it names
+pub answer-written : (b : BlockId) → b .channel < 4 → b .dseq < 16 → b .dbn .0 < 256 → idAnswer (idBytes b) ≡ Named b
+unfolding idAnswer namedBy idBytes
+answer-written b hc hd hn =
+    let h = b .channel in
+    let c : fscOf h < 2 = omega arith in
+    let p : fspOf h < 2 = omega arith in
+    let s : (codeOf (b .section) * 32 + 31) / 32 ≡ codeOf (b .section) = omega arith in
+    let l : (codeOf (b .section) * 32 + 31) / 32 < 5 = omega (arith, s, code-below (b .section)) in
+    pick-true _ _ refl
+    ∙ pick-true _ _ (lt-ltb _ _ l)
+    ∙ rw (s, second-dseq (b .dseq) (fscOf h) (fspOf h) hd c p, second-fsc (b .dseq) (fscOf h) (fspOf h) hd c p, second-fsp (b .dseq) (fscOf h) (fspOf h) hd c p, mod-eq-of-lt hn, section-code (b .section), channel-bits h hc) refl

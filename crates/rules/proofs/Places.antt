@@ -1,0 +1,152 @@
+-- Laws of sections and of the 150 places, each of the places proved once over all of them. Assumes nothing.
+use mathlib.Core.Path.{_≡_, refl, sym, ap, _∙_, subst}
+use mathlib.Core.Bool.{Bool, true, false, _&&_}
+use mathlib.Core.List.{List}
+use Prim.Native.Nat.{ℕ, _+_, _*_, _/_, _%_, _≤_, _<_}
+use native.Mathlib.Omega.{arith}
+use lib.Dec.{T, eqb, ltb, eqb→eq, ltb→lt}
+use lib.ListN.{getD, List·getD-eq-default}
+use borrow.Author.Tests.{lt-ltb, le-ltb}
+use Rattle.base.specs.Pick.{pick}
+use Rattle.base.specs.Run.{run, tab}
+use Rattle.base.proofs.Cases.{by-lt}
+use Rattle.base.proofs.Picks.{pick-true, pick-false}
+use Rattle.base.proofs.Below.{below, below-at, both-left, both-right}
+use Rattle.rules.specs.declared.Section.{Section}
+use Rattle.rules.specs.declared.Section.the-variants.{Header, Subcode, Vaux, Audio, Video}
+use Rattle.rules.specs.declared.Place.{Place}
+use Rattle.rules.specs.declared.Entry.{Entry}
+use Rattle.rules.specs.declared.Found.{Found}
+use Rattle.rules.specs.declared.Found.the-variants.{At, Nowhere}
+use Rattle.rules.specs.Places.{codeOf, sectionOf, blocksOf, place, block, places, entryAt, placeIn, placeOf}
+use Rattle.rules.specs.Judging.{printed, PrintedPlaces, entryOf}
+
+-- ---- codeOf, sectionOf
+
+pub section-code : (s : Section) → sectionOf (codeOf s) ≡ s
+unfolding sectionOf pick
+section-code Header = refl
+section-code Subcode = refl
+section-code Vaux = refl
+section-code Audio = refl
+section-code Video = refl
+
+pub code-section : (k : ℕ) → k < 5 → codeOf (sectionOf k) ≡ k
+unfolding sectionOf pick
+code-section k h = eqb→eq _ _ (below-at (λ j. eqb (codeOf (sectionOf j)) j) 5 tt k h)
+
+pub code-below : (s : Section) → codeOf s < 5
+code-below Header = omega arith
+code-below Subcode = omega arith
+code-below Vaux = omega arith
+code-below Audio = omega arith
+code-below Video = omega arith
+
+-- sections with the same number are the same
+pub code-one : (s t : Section) → codeOf s ≡ codeOf t → s ≡ t
+code-one s t e = sym (section-code s) ∙ ap sectionOf e ∙ section-code t
+
+-- ---- entryAt, placeIn
+
+-- every place holds a block of its section
+holds : ℕ → Bool
+holds p = ltb (entryAt (place p) .number .0) (blocksOf (entryAt (place p) .section))
+
+pub entry-number-below : (p : ℕ) → p < 150 → entryAt (place p) .number .0 < blocksOf (entryAt (place p) .section)
+unfolding holds entryAt places run tab
+entry-number-below p h = ltb→lt _ _ (below-at holds 150 tt p h)
+
+stands : ℕ → Bool
+stands p = eqb (placeIn (entryAt (place p) .section) (entryAt (place p) .number .0)) p
+
+pub place-in-entry : (p : ℕ) → p < 150 → placeIn (entryAt (place p) .section) (entryAt (place p) .number .0) ≡ p
+unfolding stands entryAt places run tab
+place-in-entry p h = eqb→eq _ _ (below-at stands 150 tt p h)
+
+-- block k of section s: its place is one of the 150, and holds it
+within : Section → ℕ → Bool
+within s k = ltb (placeIn s k) 150
+
+same-section : Section → ℕ → Bool
+same-section s k = eqb (codeOf (entryAt (place (placeIn s k)) .section)) (codeOf s)
+
+same-number : Section → ℕ → Bool
+same-number s k = eqb (entryAt (place (placeIn s k)) .number .0) k
+
+found : Section → ℕ → Bool
+found s k = within s k && (same-section s k && same-number s k)
+
+all-found : (s : Section) → T (below (found s) (blocksOf s))
+unfolding found within same-section same-number entryAt places run tab
+all-found Header = tt
+all-found Subcode = tt
+all-found Vaux = tt
+all-found Audio = tt
+all-found Video = tt
+
+module _ (s : Section) (k : ℕ) (h : k < blocksOf s) where
+  is-found : T (within s k && (same-section s k && same-number s k))
+  unfolding found
+  is-found = below-at (found s) (blocksOf s) (all-found s) k h
+
+  is-same : T (same-section s k && same-number s k)
+  is-same = both-right (within s k) (same-section s k && same-number s k) is-found
+
+  pub place-in-below : placeIn s k < 150
+  unfolding within
+  place-in-below = ltb→lt _ _ (both-left (within s k) (same-section s k && same-number s k) is-found)
+
+  pub entry-place-in : entryAt (place (placeIn s k)) ≡ block s k
+  unfolding same-section same-number
+  entry-place-in =
+      let e : entryAt (place (placeIn s k)) .section ≡ s = code-one _ _ (eqb→eq _ _ (both-left (same-section s k) (same-number s k) is-same)) in
+      let n : entryAt (place (placeIn s k)) .number .0 ≡ k = eqb→eq _ _ (both-right (same-section s k) (same-number s k) is-same) in
+      λ i. record { section = e i; number = record { 0 = n i } }
+
+-- ---- placeOf: the one rule that turns a place into a block and back
+
+pub place-of-entry : (p : ℕ) → p < 150 → placeOf (entryAt (place p)) ≡ At (place p)
+unfolding placeOf
+place-of-entry p h = pick-true _ _ (lt-ltb _ _ (entry-number-below p h)) ∙ ap (λ (j : ℕ). At (place j)) (place-in-entry p h)
+
+pub entry-of-place : (e : Entry) (p : Place) → placeOf e ≡ At p → (p .0 < 150) × (entryAt p ≡ e)
+unfolding placeOf
+entry-of-place e p f =
+    by-lt (e .number .0) (blocksOf (e .section))
+    (λ h.
+    let q : At (place (placeIn (e .section) (e .number .0))) ≡ At p = sym (pick-true _ _ (lt-ltb _ _ h)) ∙ f in
+    let same : place (placeIn (e .section) (e .number .0)) ≡ p = cc in
+    (subst (λ (x : Place). x .0 < 150) same (place-in-below (e .section) (e .number .0) h), subst (λ (x : Place). entryAt x ≡ e) same (entry-place-in (e .section) (e .number .0) h)))
+    (λ h.
+    let q : Nowhere ≡ At p = sym (pick-false _ _ (le-ltb _ _ h)) ∙ f in
+    let z : _≡_ {A = ℕ} 0 1 = cc in
+    absurd (omega arith))
+
+pub entry-past : (p : ℕ) → 150 ≤ p → entryAt (place p) ≡ block Header 0
+unfolding entryAt places run tab
+entry-past p h = List·getD-eq-default places (block Header 0) h
+
+pub blocks-le : (s : Section) → blocksOf s ≤ 135
+blocks-le Header = omega arith
+blocks-le Subcode = omega arith
+blocks-le Vaux = omega arith
+blocks-le Audio = omega arith
+blocks-le Video = omega arith
+
+pub number-below : (p : ℕ) → p < 150 → entryAt (place p) .number .0 < 135
+number-below p h = omega (arith, entry-number-below p h, blocks-le (entryAt (place p) .section))
+
+-- ---- PrintedPlaces
+
+-- a table is right by one test over its 150 entries
+pub printed-places : (table : List ℕ) → T (below (λ (p : ℕ). eqb (getD table p 0) (printed (entryAt (place p)))) 150) → PrintedPlaces table
+printed-places table t = record { entry = λ p h. eqb→eq _ _ (below-at (λ (k : ℕ). eqb (getD table k 0) (printed (entryAt (place k)))) 150 t p h) }
+
+-- ---- entryOf
+
+pub entry-printed : (e : Entry) → entryOf (printed e) ≡ e
+unfolding entryOf
+entry-printed e =
+    let s : printed e % 65536 / 32 ≡ codeOf (e .section) = omega (arith, code-below (e .section)) in
+    let n : printed e / 65536 ≡ e .number .0 = omega (arith, code-below (e .section)) in
+    rw (s, n, section-code (e .section)) refl

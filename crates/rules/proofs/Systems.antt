@@ -1,0 +1,47 @@
+-- Laws of the four systems. Assumes nothing.
+use mathlib.Core.Path.{_≡_, refl}
+use mathlib.Core.Logic.{_⊎_, inl, inr}
+use Prim.Native.Nat.{ℕ, _*_, _≤_, _<_}
+use native.Mathlib.Omega.{arith}
+use borrow.Author.Tests.{ne-eqb}
+use Rattle.base.specs.Pick.{pick}
+use Rattle.rules.specs.declared.System.{System}
+use Rattle.rules.specs.declared.System.the-variants.{I60, I50, P60, P50}
+use Rattle.rules.specs.declared.SystemNumber.{SystemNumber}
+use Rattle.rules.specs.declared.SystemNumber.the-variants.{Known, NoSystem}
+use Rattle.rules.specs.Systems.{sequencesOf, systemOf, numberOf, sequencesIn}
+
+-- ---- systemOf
+
+pub system-number : (y : System) → systemOf (numberOf y) ≡ Known y
+unfolding systemOf pick
+system-number I60 = refl
+system-number I50 = refl
+system-number P60 = refl
+system-number P50 = refl
+
+-- "a number above 3 is no system"
+pub system-above : (k : ℕ) → 3 < k → systemOf k ≡ NoSystem
+unfolding systemOf pick
+system-above k h =
+    rw (ne-eqb k 0 (λ e. omega arith), ne-eqb k 1 (λ e. omega arith), ne-eqb k 2 (λ e. omega arith), ne-eqb k 3 (λ e. omega arith)) refl
+
+-- ---- sequencesOf
+
+pub sequences-cases : (y : System) → (sequencesOf y ≡ 10) ⊎ (sequencesOf y ≡ 12)
+sequences-cases I60 = inl refl
+sequences-cases I50 = inr refl
+sequences-cases P60 = inl refl
+sequences-cases P50 = inr refl
+
+pub sequences-some : (y : System) → 0 < sequencesOf y
+sequences-some I60 = omega arith
+sequences-some I50 = omega arith
+sequences-some P60 = omega arith
+sequences-some P50 = omega arith
+
+pub sequences-le : (y : System) → sequencesOf y ≤ 12
+sequences-le I60 = omega arith
+sequences-le I50 = omega arith
+sequences-le P60 = omega arith
+sequences-le P50 = omega arith

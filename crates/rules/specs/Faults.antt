@@ -1,0 +1,77 @@
+-- The fault of a block where it stands, and all faults in stream order (document 01, "Refusal numbers and their order").
+use mathlib.Core.Path.{_≡_}
+use mathlib.Core.List.{List, [], _∷_}
+use Prim.Native.Nat.{ℕ}
+use lib.Dec.{eqb}
+use lib.ListN.{take}
+use Rattle.base.specs.Calls.{firstOf, _when_}
+use Rattle.base.specs.Pick.{pick}
+use Rattle.base.specs.Run.{run}
+use mathlib.Core.Bool.{Bool, not}
+use Rattle.rules.specs.declared.System.{System}
+use Rattle.rules.specs.declared.SystemNumber.{SystemNumber}
+use Rattle.rules.specs.declared.SystemNumber.the-variants.{Known, NoSystem}
+use Rattle.rules.specs.declared.Entry.{Entry}
+use Rattle.rules.specs.declared.BlockId.{BlockId}
+use Rattle.rules.specs.declared.IdAnswer.{IdAnswer}
+use Rattle.rules.specs.declared.IdAnswer.the-variants.{Named, Reserved, WrongLength}
+use Rattle.rules.specs.declared.Fault.{Fault}
+use Rattle.rules.specs.Systems.{sequencesOf}
+use Rattle.rules.specs.Places.{codeOf, place, entryAt}
+use Rattle.rules.specs.Ids.{blockAnswer, idValues}
+use Rattle.rules.specs.Blocks.{sequenceAt, blockIn}
+
+-- a named block where entry e of sequence q of DIF channel h stands: "12, 13, 14, 15: section, channel, Dseq, DBN not the place's"
+unfoldable pub misnamed : BlockId → ℕ → ℕ → Entry → ℕ
+misnamed b h q e = firstOf (
+    12 when not (eqb (codeOf (b .section)) (codeOf (e .section)))
+    ∷ 13 when not (eqb (b .channel) h)
+    ∷ 14 when not (eqb (b .dseq) q)
+    ∷ 15 when not (eqb (b .dbn .0) (e .number .0))
+    ∷ [])
+
+unfoldable pub faultOf : IdAnswer → ℕ → ℕ → Entry → ℕ
+faultOf (Named b) h q e = misnamed b h q e
+faultOf Reserved h q e = idValues Reserved .number
+faultOf WrongLength h q e = idValues WrongLength .number
+
+-- the fault of a block at place p of sequence q of DIF channel h, by the answer to its ID; 0 for none
+unfoldable pub faultAt : List ℕ → ℕ → ℕ → ℕ → ℕ
+faultAt block h q p = faultOf (blockAnswer block) h q (entryAt (place p))
+
+-- "A block names its place when section, channel, Dseq and DBN all do."
+pub record NamesPlace (block : List ℕ) (h q p : ℕ) : Type 0 where
+  pub id : BlockId
+  pub named : blockAnswer block ≡ Named id
+  pub section : id .section ≡ entryAt (place p) .section
+  pub channel : id .channel ≡ h
+  pub dseq : id .dseq ≡ q
+  pub dbn : id .dbn ≡ entryAt (place p) .number
+
+abbrev pub names : List ℕ → ℕ → ℕ → ℕ → Bool
+names block h q p = eqb (faultAt block h q p) 0
+
+-- ---- in stream order: places, then sequences, then DIF channels
+
+-- one record where the block does not name its place, and none where it does
+unfoldable pub blockFaults : List ℕ → ℕ → ℕ → ℕ → List Fault
+blockFaults block h q p = pick (names block h q p) [] (record { channel = h; sequence = q; place = place p; fault = faultAt block h q p } ∷ [])
+
+abbrev pub placeFaults : List ℕ → ℕ → ℕ → ℕ → List Fault
+placeFaults sequence h q p = blockFaults (blockIn sequence p) h q p
+
+unfoldable pub sequenceFaults : List ℕ → ℕ → ℕ → List Fault
+sequenceFaults sequence h q = run (placeFaults sequence h q) 150
+
+abbrev pub partFaults : System → List ℕ → ℕ → ℕ → List Fault
+partFaults y frame h q = sequenceFaults (sequenceAt y frame h q) h q
+
+unfoldable pub channelFaults : System → List ℕ → ℕ → List Fault
+channelFaults y frame h = run (partFaults y frame h) (sequencesOf y)
+
+unfoldable pub frameFaults : System → List ℕ → List Fault
+frameFaults y frame = run (channelFaults y frame) 4
+
+abbrev pub faultsIn : SystemNumber → List ℕ → List Fault
+faultsIn (Known y) frame = frameFaults y frame
+faultsIn NoSystem frame = []

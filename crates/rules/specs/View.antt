@@ -1,0 +1,42 @@
+-- The calls `view_number` and `view`: "A block view uses 1, 2, 3 and its own block's 11-15."
+use mathlib.Core.Path.{_≡_}
+use mathlib.Core.Bool.{Bool, not, _||_}
+use mathlib.Core.List.{List, [], _∷_}
+use Prim.Native.Nat.{ℕ}
+use lib.Dec.{eqb, leb}
+use lib.ListN.{length}
+use Rattle.base.specs.Calls.{firstOf, _when_}
+use Rattle.base.specs.Pick.{pick}
+use Rattle.rules.specs.declared.SystemNumber.{SystemNumber}
+use Rattle.rules.specs.declared.SystemNumber.the-variants.{Known, NoSystem}
+use Rattle.rules.specs.declared.Place.{Place}
+use Rattle.rules.specs.Systems.{systemOf, isNoSystem, frameBytes}
+use Rattle.rules.specs.Blocks.{blockAt}
+use Rattle.rules.specs.Faults.{faultAt}
+use Rattle.rules.specs.Survey.{outsideSequences}
+
+-- the block that is viewed
+abbrev pub viewedBlock : SystemNumber → List ℕ → ℕ → ℕ → ℕ → List ℕ
+viewedBlock (Known y) frame h q p = blockAt y frame h q p
+viewedBlock NoSystem frame h q p = []
+
+unfoldable pub viewNumber : ℕ → List ℕ → ℕ → ℕ → Place → ℕ
+viewNumber k frame h q p = firstOf (
+    1 when isNoSystem (systemOf k)
+    ∷ 2 when not (eqb (length frame) (frameBytes (systemOf k)))
+    ∷ 3 when (outsideSequences (systemOf k) h q || leb 150 (p .0))
+    ∷ fault when not (eqb fault 0)
+    ∷ [])
+  where
+    fault : ℕ
+    fault = faultAt (viewedBlock (systemOf k) frame h q (p .0)) h q (p .0)
+
+-- "the part empty exactly when the number is a refusal"
+unfoldable pub viewPart : ℕ → List ℕ → ℕ → ℕ → Place → List ℕ
+viewPart k frame h q p = pick (eqb (viewNumber k frame h q p) 0) (viewedBlock (systemOf k) frame h q (p .0)) []
+
+pub record ViewNumbered (k : ℕ) (frame : List ℕ) (h q : ℕ) (p : Place) (r : ℕ) : Type 0 where
+  pub answer : r ≡ viewNumber k frame h q p
+
+pub record Viewed (k : ℕ) (frame : List ℕ) (h q : ℕ) (p : Place) (part : List ℕ) : Type 0 where
+  pub answer : part ≡ viewPart k frame h q p

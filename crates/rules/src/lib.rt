@@ -1,0 +1,78 @@
+// The declared types of the format. This crate has no code: specs/ says what is true, proofs/ has the laws.
+
+// The four systems: 1080/60/I, 1080/50/I, 720/60/P and 720/50/P.
+pub enum System {
+    I60,
+    I50,
+    P60,
+    P50,
+}
+
+// What a system's number says. A number above 3 is no system.
+pub enum SystemNumber {
+    Known(System),
+    NoSystem,
+}
+
+// The sample counts of a system: two at 60 Hz, one at 50 Hz, where both fields have it.
+pub struct Counts {
+    pub fewer: u32,
+    pub more: u32,
+}
+
+// The five sections of a sequence.
+pub enum Section {
+    Header,
+    Subcode,
+    Vaux,
+    Audio,
+    Video,
+}
+
+// A DBN: the number of a block in its section.
+pub struct BlockNumber(pub u32);
+
+// One of the 150 places of a sequence.
+pub struct Place(pub u32);
+
+// What stands at a place: a section, and a block's number in it.
+pub struct Entry {
+    pub section: Section,
+    pub number: BlockNumber,
+}
+
+// Where a section's block stands. A number past the section's blocks stands nowhere.
+pub enum Found {
+    At(Place),
+    Nowhere,
+}
+
+// What an ID names.
+pub struct BlockId {
+    pub section: Section,
+    pub channel: u32,
+    pub dseq: u32,
+    pub dbn: BlockNumber,
+}
+
+// The answer to an ID: a named block, fault 11, or refusal 4.
+pub enum IdAnswer {
+    Named(BlockId),
+    Reserved,
+    WrongLength,
+}
+
+// A survey record: where a block stands that does not name its place, and its fault.
+pub struct Fault {
+    pub channel: u32,
+    pub sequence: u32,
+    pub place: Place,
+    pub fault: u32,
+}
+
+// What a survey answers.
+pub struct Survey {
+    pub number: u32,
+    pub total: u32,
+    pub kept: u32,
+}
