@@ -1,11 +1,11 @@
--- Laws of `pick`, of a refusal table, and of a call's outcome. Assumes nothing.
-use mathlib.Core.Path.{_≡_, refl, sym, ap, ap₂, _∙_}
+-- Laws of `pick` and of a refusal table. Assumes nothing.
+use mathlib.Core.Path.{_≡_, refl}
 use mathlib.Core.Bool.{Bool, true, false, _||_}
 use mathlib.Core.List.{List, [], _∷_}
 use Prim.Native.Nat.{ℕ, suc}
 use native.Mathlib.Omega.{arith}
 use Rattle.base.specs.Pick.{pick}
-use Rattle.base.specs.Calls.{Refusal, _when_, firstOf, ExactlyOne}
+use Rattle.base.specs.Calls.{Refusal, _when_, firstOf}
 
 -- ---- pick
 
@@ -40,8 +40,8 @@ unfolding firstOf pick
 first-zero true k rs h = absurd (omega arith)
 first-zero false k rs h = (refl, h)
 
--- ---- one outcome
+-- ---- neither of two conditions
 
--- an outcome that is given by an equation, and one that is given by two
-pub one-answer : {A : Type 0} (a : A) → ExactlyOne A (λ (o : A). o ≡ a)
-one-answer a = record { outcome = a; meets = refl; only = λ o e. e }
+pub neither : (a b : Bool) → (a || b) ≡ false → (a ≡ false) × (b ≡ false)
+neither true b e = let z : _≡_ {A = ℕ} 0 1 = cc in absurd (omega arith)
+neither false b e = (refl, e)

@@ -10,8 +10,8 @@ use lib.ListN.{length}
 use borrow.Author.Tests.{eq-eqb, ne-eqb, lt-leb, leb-false, eqb-true, not-false, lt-ltb, le-ltb}
 use Rattle.base.specs.Calls.{firstOf, _when_, ExactlyOne}
 use Rattle.base.specs.Pick.{pick}
-use Rattle.base.proofs.Cases.{by-eq}
-use Rattle.base.proofs.Picks.{pick-true, pick-false, first-zero}
+use Rattle.base.proofs.Cases.{by-bool, by-eq}
+use Rattle.base.proofs.Picks.{pick-true, pick-false, neither}
 use Rattle.rules.specs.declared.System.{System}
 use Rattle.rules.specs.declared.SystemNumber.{SystemNumber}
 use Rattle.rules.specs.declared.SystemNumber.the-variants.{Known, NoSystem}
@@ -28,7 +28,7 @@ use Rattle.rules.specs.Faults.{faultAt, frameFaults, faultsIn, sequenceF
 use Rattle.rules.specs.Records.{kept, after}
 use Rattle.rules.specs.Noting.{Noted}
 use Rattle.rules.specs.ReadId.{IdRead}
-use Rattle.rules.specs.Survey.{outsideSequences, surveyNumber, sequenceNumber, surveyAnswer, surveyLeft, Surveyed}
+use Rattle.rules.specs.Survey.{outsideSequences, surveyNumber, sequenceNumber, refusal, surveyAnswer, surveyLeft, Surveyed}
 use Rattle.rules.specs.View.{viewedBlock, viewNumber, viewPart, ViewNumbered, Viewed}
 use Rattle.rules.proofs.Blocks.{block-length}
 use Rattle.rules.proofs.Records.{kept-length, more-after}
@@ -61,7 +61,7 @@ survey-one number fs list = record {
 }
 
 module _ {number : ℕ} {fs : List Fault} {list list′ : List ℕ} {r : Survey} (s : Surveyed number fs list r list′) where
-  pub survey-refused : (number ≡ 0 → ⊥) → (r ≡ record { number = number; total = 0; kept = 0 }) × (list′ ≡ list)
+  pub survey-refused : (number ≡ 0 → ⊥) → (r ≡ refusal number) × (list′ ≡ list)
   unfolding surveyAnswer surveyLeft
   survey-refused d = (s .answer ∙ pick-false _ _ (ne-eqb _ _ d), s .left ∙ pick-false _ _ (ne-eqb _ _ d))
 
@@ -69,7 +69,24 @@ module _ {number : ℕ} {fs : List Fault} {list list′ : List ℕ} {r : Survey}
   unfolding surveyAnswer surveyLeft
   survey-taken z = (s .answer ∙ pick-true _ _ (eq-eqb _ _ z), s .left ∙ pick-true _ _ (eq-eqb _ _ z))
 
-module _ (k : ℕ) (size : ℕ) where
+-- a survey that went through, as the code leaves it
+pub survey-done : (number : ℕ) (fs : List Fault) (list list′ : List ℕ) (t b : ℕ) → number ≡ 0 → Noted list 0 fs list′ t → b ≡ min (length list / 4) t
+    → Surveyed number fs list (record { number = 0; total = t; kept = b }) list′
+unfolding surveyAnswer surveyLeft pick
+survey-done number fs list list′ t b z n e =
+    let total : t ≡ length fs = omega (arith, n .total) in
+    let held : b ≡ length (kept list fs) = e ∙ ap (min (length list / 4)) total ∙ sym (kept-length list fs) in
+    record { answer = rw (eq-eqb number 0 z, total, held) refl; left = rw (eq-eqb number 0 z) (n .left ∙ more-after list fs) }
+
+-- a refusal, as the code leaves it
+pub survey-stopped : (number : ℕ) (fs : List Fault) (list : List ℕ) (k : ℕ) (r : Survey) → number ≡ suc k → r ≡ refusal (suc k) → Surveyed number fs list r list
+unfolding surveyAnswer surveyLeft pick
+survey-stopped number fs list k r e er =
+    let d : eqb number 0 ≡ false = ne-eqb number 0 (λ z. omega arith) in
+    record { answer = rw (d, e) er; left = rw d refl }
+
+-- the number of a frame's survey
+module _ (k size : ℕ) where
   pub survey-1 : systemOf k ≡ NoSystem → surveyNumber k size ≡ 1
   unfolding surveyNumber firstOf pick
   survey-1 e = rw e refl
@@ -82,3 +99,88 @@ module _ (k : ℕ) (size : ℕ) where
     pub survey-0 : size ≡ 48000 * sequencesOf y → surveyNumber k size ≡ 0
     unfolding surveyNumber firstOf pick
     survey-0 e = rw (known, eq-eqb _ _ e) refl
+
+-- the number of a sequence's survey
+module _ (k h q size : ℕ) where
+  pub sequence-1 : systemOf k ≡ NoSystem → sequenceNumber k h q size ≡ 1
+  unfolding sequenceNumber firstOf pick
+  sequence-1 e = rw e refl
+
+  module _ (y : System) (known : systemOf k ≡ Known y) where
+    pub sequence-3 : outsideSequences (Known y) h q ≡ true → sequenceNumber k h q size ≡ 3
+    unfolding sequenceNumber firstOf pick
+    sequence-3 o = rw (known, o) refl
+
+    module _ (inside : outsideSequences (Known y) h q ≡ false) where
+      pub sequence-4 : (size ≡ 12000 → ⊥) → sequenceNumber k h q size ≡ 4
+      unfolding sequenceNumber firstOf pick
+      sequence-4 d = rw (known, inside, ne-eqb _ _ d) refl
+
+      pub sequence-0 : size ≡ 12000 → sequenceNumber k h q size ≡ 0
+      unfolding sequenceNumber firstOf pick
+      sequence-0 e = rw (known, inside, eq-eqb _ _ e) refl
+
+-- ---- outsideSequences
+
+pub inside-means : (y : System) (h q : ℕ) → outsideSequences (Known y) h q ≡ false → (h < 4) × (q < sequencesOf y)
+inside-means y h q o = let both = neither (leb 4 h) (leb (sequencesOf y) q) o in (leb-false _ _ (both .0), leb-false _ _ (both .1))
+
+pub inside-when : (y : System) (h q : ℕ) → h < 4 → q < sequencesOf y → outsideSequences (Known y) h q ≡ false
+inside-when y h q hh hq = rw (lt-leb _ _ hh, lt-leb _ _ hq) refl
+
+-- ---- view_number and view
+
+pub view-number-one : (k : ℕ) (frame : List ℕ) (h q : ℕ) (p : Place) → ExactlyOne ℕ (ViewNumbered k frame h q p)
+view-number-one k frame h q p = record { outcome = viewNumber k frame h q p; meets = record { answer = refl }; only = λ o m. m .answer }
+
+pub view-one : (k : ℕ) (frame : List ℕ) (h q : ℕ) (p : Place) → ExactlyOne (List ℕ) (Viewed k frame h q p)
+view-one k frame h q p = record { outcome = viewPart k frame h q p; meets = record { answer = refl }; only = λ o m. m .answer }
+
+module _ (k : ℕ) (frame : List ℕ) (h q : ℕ) (p : Place) where
+  pub view-1 : systemOf k ≡ NoSystem → viewNumber k frame h q p ≡ 1
+  unfolding viewNumber firstOf pick
+  view-1 e = rw e refl
+
+  -- the part is empty where the number is a refusal
+  pub view-refused : (viewNumber k frame h q p ≡ 0 → ⊥) → viewPart k frame h q p ≡ []
+  unfolding viewPart
+  view-refused d = pick-false _ _ (ne-eqb _ _ d)
+
+  module _ (y : System) (known : systemOf k ≡ Known y) where
+    pub view-2 : (length frame ≡ 48000 * sequencesOf y → ⊥) → viewNumber k frame h q p ≡ 2
+    unfolding viewNumber firstOf pick
+    view-2 d = rw (known, ne-eqb _ _ d) refl
+
+    pub view-taken : viewNumber k frame h q p ≡ 0 → viewPart k frame h q p ≡ blockAt y frame h q (p .0)
+    unfolding viewPart
+    view-taken z = pick-true _ _ (eq-eqb _ _ z) ∙ rw known refl
+
+    module _ (whole : length frame ≡ 48000 * sequencesOf y) where
+      pub view-3 : (outsideSequences (Known y) h q || leb 150 (p .0)) ≡ true → viewNumber k frame h q p ≡ 3
+      unfolding viewNumber firstOf pick
+      view-3 o = rw (known, eq-eqb _ _ whole, o) refl
+
+      -- else the block's own fault, or 0
+      pub view-fault : (outsideSequences (Known y) h q || leb 150 (p .0)) ≡ false → viewNumber k frame h q p ≡ faultAt (blockAt y frame h q (p .0)) h q (p .0)
+      unfolding viewNumber firstOf pick
+      view-fault o =
+          let f = faultAt (blockAt y frame h q (p .0)) h q (p .0) in
+          rw (known, eq-eqb _ _ whole, o) (by-eq f 0 (λ e. rw (eq-eqb f 0 e) (sym e)) (λ d. rw (ne-eqb f 0 d) refl))
+
+    -- 0 says that the frame has its length, the place is in it, and its block names it
+    pub view-zero : viewNumber k frame h q p ≡ 0
+        → (length frame ≡ 48000 * sequencesOf y) × (h < 4) × (q < sequencesOf y) × (p .0 < 150) × (faultAt (blockAt y frame h q (p .0)) h q (p .0) ≡ 0)
+    view-zero z =
+        by-eq (length frame) (48000 * sequencesOf y)
+        (λ whole.
+        by-bool (outsideSequences (Known y) h q || leb 150 (p .0))
+        (λ o. absurd (omega (arith, z, view-3 whole o)))
+        (λ o.
+        let both = neither (outsideSequences (Known y) h q) (leb 150 (p .0)) o in
+        let i = inside-means y h q (both .0) in
+        (whole, i .0, i .1, leb-false _ _ (both .1), sym (view-fault whole o) ∙ z)))
+        (λ d. absurd (omega (arith, z, view-2 d)))
+
+    -- and then the part is the block's 80 bytes
+    pub view-length : viewNumber k frame h q p ≡ 0 → length (viewPart k frame h q p) ≡ 80
+    view-length z = let w = view-zero z in ap length (view-taken z) ∙ block-length y frame h q (p .0) (w .0) (w .1) (w .2) (w .3)

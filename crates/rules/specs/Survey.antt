@@ -37,11 +37,14 @@ sequenceNumber k h q size = firstOf (
 
 -- ---- the answer and the list: "A refusal answers its number, otherwise zeros .., and writes nothing."
 
+abbrev pub refusal : ℕ → Survey
+refusal number = record { number = number; total = 0; kept = 0 }
+
 unfoldable pub surveyAnswer : ℕ → List Fault → List ℕ → Survey
 surveyAnswer number fs list =
     pick (eqb number 0)
     (record { number = 0; total = length fs; kept = length (kept list fs) })
-    (record { number = number; total = 0; kept = 0 })
+    (refusal number)
 
 unfoldable pub surveyLeft : ℕ → List Fault → List ℕ → List ℕ
 surveyLeft number fs list = pick (eqb number 0) (after list fs) list

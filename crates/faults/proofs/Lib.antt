@@ -1,0 +1,3 @@
+pub mod Naming
+pub mod Noting
+pub mod Ways

@@ -1,0 +1,47 @@
+use Rattle.faults.proofs.Naming.{other-section, other-channel, other-dseq, other-number, all-named}
+use borrow.Author.Needs.{needs}
+use Rattle.faults.proofs.named_fault.Statement.{statement}
+use Rattle.faults.proofs.named_fault.Tie as tie
+use Rattle.faults.proofs.named_fault.Reads as reads
+use Rattle.faults.proofs.named_fault.Lts as lts
+use Rattle.layout.proofs.section_code.Reads as section-code-reads
+
+-- src/lib.rt:32:8
+section-code-requires : tie.Need-section-code-requires
+section-code-requires c κs = search needs
+
+-- src/lib.rt:32:39
+section-code-requires-2 : tie.Need-section-code-requires-2
+section-code-requires-2 c κs = search needs
+
+-- src/lib.rt:33:9
+returns : tie.Need-returns
+returns c = search (other-section, needs)
+
+-- src/lib.rt:36:9
+returns-2 : tie.Need-returns-2
+returns-2 c = search (other-channel, needs)
+
+-- src/lib.rt:39:9
+returns-3 : tie.Need-returns-3
+returns-3 c = search (other-dseq, needs)
+
+-- src/lib.rt:42:9
+returns-4 : tie.Need-returns-4
+returns-4 c = search (other-number, needs)
+
+-- src/lib.rt:27:1
+returns-5 : tie.Need-returns-5
+returns-5 c = search (all-named, needs)
+
+pub named-fault-spec : {M : Type 1} → statement M
+named-fault-spec =
+    tie.close
+    (tie.spec
+    section-code-requires
+    section-code-requires-2
+    returns
+    returns-2
+    returns-3
+    returns-4
+    returns-5)

@@ -1,0 +1,97 @@
+use Rattle.faults.proofs.Noting.{part-fits, part-asked, part-turn, parts-done}
+use Rattle.faults.proofs.Noting.{part-fits, part-asked, part-turn}
+use Rattle.rules.proofs.Records.{noted-start, noted-length}
+use Rattle.rules.proofs.Systems.{sequences-le}
+use Rattle.rules.specs.Noting.{Noted}
+use Rattle.rules.specs.Faults.{partFaults, channelFaults}
+use Rattle.rules.specs.Systems.{sequencesOf}
+use Rattle.base.specs.Run.{run}
+use native.Mathlib.Omega.{arith}
+use Prim.Native.Nat.{_+_, _*_, _-_, _≤_}
+use borrow.Author.Needs.{needs}
+use mathlib.Core.Path.{_≡_}
+use Rattle.faults.proofs.survey_channel.Statement.{statement}
+use Rattle.faults.proofs.survey_channel.Tie as tie
+use Rattle.faults.proofs.survey_channel.Reads as reads
+use Rattle.faults.proofs.survey_channel.Lts as lts
+use Rattle.faults.proofs.survey_part.Reads as survey-part-reads
+use Rattle.layout.proofs.sequences.Reads as sequences-reads
+
+abbrev Inv-loop : tie.InvT-loop
+Inv-loop frame y h from list₀ t total₀ at₀ q₀ list total at q =
+    (q ≤ sequencesOf y) × ((at ≤ 432000 + q * 12000) × ((at ≡ from + q * 12000) × Noted list₀ t (run (partFaults y frame h) q) list total))
+
+abbrev μ-loop : tie.MeasureT-loop
+μ-loop frame y h from list₀ t total₀ at₀ q₀ list total at q = sequencesOf y - q
+
+-- src/lib.rt:172:5
+loop-holds : tie.Need-loop-holds Inv-loop μ-loop
+loop-holds c = (omega arith, (omega arith, (omega arith, noted-start _ _ _)))
+
+-- src/lib.rt:172:15
+sequences-requires : tie.Need-sequences-requires Inv-loop μ-loop
+sequences-requires c κs = search needs
+
+-- src/lib.rt:173:40
+add-survey-part : tie.Need-add-survey-part Inv-loop μ-loop
+add-survey-part c = search needs
+
+-- src/lib.rt:173:29
+sub-survey-part : tie.Need-sub-survey-part Inv-loop μ-loop
+sub-survey-part c = omega arith
+
+-- src/lib.rt:173:29
+part-survey-part-start : tie.Need-part-survey-part-start Inv-loop μ-loop
+part-survey-part-start c = omega arith
+
+-- src/lib.rt:173:29
+part-survey-part-end : tie.Need-part-survey-part-end Inv-loop μ-loop
+part-survey-part-end c = search (part-fits, needs)
+
+-- src/lib.rt:173:9
+survey-part-requires : tie.Need-survey-part-requires Inv-loop μ-loop
+survey-part-requires c κs = search (part-asked, needs)
+
+-- src/lib.rt:174:9
+add-at : tie.Need-add-at Inv-loop μ-loop
+add-at c = search needs
+
+-- src/lib.rt:175:9
+add-q : tie.Need-add-q Inv-loop μ-loop
+add-q c = search needs
+
+-- src/lib.rt:172:5
+loop-less : tie.Need-loop-less Inv-loop μ-loop
+loop-less c = search needs
+
+-- src/lib.rt:172:5
+loop-again : tie.Need-loop-again Inv-loop μ-loop
+loop-again c = (omega arith, (omega arith, (omega arith, search (part-turn, needs))))
+
+-- src/lib.rt:165:1
+same-length : tie.Need-same-length Inv-loop μ-loop
+same-length c = search (noted-length, needs)
+
+-- src/lib.rt:165:1
+returns : tie.Need-returns Inv-loop μ-loop
+returns c = search (parts-done, needs)
+
+pub survey-channel-spec : {M : Type 1} → statement M
+survey-channel-spec =
+    tie.close
+    (tie.spec
+    Inv-loop
+    μ-loop
+    loop-holds
+    sequences-requires
+    add-survey-part
+    sub-survey-part
+    part-survey-part-start
+    part-survey-part-end
+    survey-part-requires
+    add-at
+    add-q
+    loop-less
+    loop-again
+    same-length
+    returns)
