@@ -69,14 +69,16 @@ module _ {number : ℕ} {fs : List Fault} {list list′ : List ℕ} {r : Survey}
   unfolding surveyAnswer surveyLeft
   survey-taken z = (s .answer ∙ pick-true _ _ (eq-eqb _ _ z), s .left ∙ pick-true _ _ (eq-eqb _ _ z))
 
--- a survey that went through, as the code leaves it
-pub survey-done : (number : ℕ) (fs : List Fault) (list list′ : List ℕ) (t b : ℕ) → number ≡ 0 → Noted list 0 fs list′ t → b ≡ min (length list / 4) t
-    → Surveyed number fs list (record { number = 0; total = t; kept = b }) list′
-unfolding surveyAnswer surveyLeft pick
-survey-done number fs list list′ t b z n e =
-    let total : t ≡ length fs = omega (arith, n .total) in
-    let held : b ≡ length (kept list fs) = e ∙ ap (min (length list / 4)) total ∙ sym (kept-length list fs) in
-    record { answer = rw (eq-eqb number 0 z, total, held) refl; left = rw (eq-eqb number 0 z) (n .left ∙ more-after list fs) }
+-- a survey that went through: its total, what it kept and what it left; and as the code leaves it
+module _ (number : ℕ) (fs : List Fault) (list list′ : List ℕ) (t b : ℕ) (z : number ≡ 0) where
+  pub survey-given : t ≡ length fs → b ≡ length (kept list fs) → list′ ≡ after list fs → Surveyed number fs list (record { number = 0; total = t; kept = b }) list′
+  unfolding surveyAnswer surveyLeft pick
+  survey-given total held left = record { answer = rw (eq-eqb number 0 z, total, held) refl; left = rw (eq-eqb number 0 z) left }
+
+  pub survey-done : Noted list 0 fs list′ t → b ≡ min (length list / 4) t → Surveyed number fs list (record { number = 0; total = t; kept = b }) list′
+  survey-done n e =
+      let total : t ≡ length fs = omega (arith, n .total) in
+      survey-given total (e ∙ ap (min (length list / 4)) total ∙ sym (kept-length list fs)) (n .left ∙ more-after list fs)
 
 -- a refusal, as the code leaves it
 pub survey-stopped : (number : ℕ) (fs : List Fault) (list : List ℕ) (k : ℕ) (r : Survey) → number ≡ suc k → r ≡ refusal (suc k) → Surveyed number fs list r list

@@ -135,3 +135,10 @@ unnamed-length y frame (suc m) =
 
 pub faults-total : (y : System) (frame : List ℕ) → length (frameFaults y frame) ≡ failing (named y frame) (blocksIn y)
 faults-total y frame = ap length (faults-stream y frame) ∙ unnamed-length y frame (blocksIn y)
+
+-- they go by the system's sequences alone
+pub faults-sequences : (y z : System) (frame : List ℕ) → sequencesOf y ≡ sequencesOf z → frameFaults y frame ≡ frameFaults z frame
+unfolding frameFaults channelFaults sequenceAt
+faults-sequences y z frame e =
+    run-same (channelFaults y frame) (channelFaults z frame) 4 (λ h _.
+    ap (λ (n : ℕ). run (λ (q : ℕ). sequenceFaults (take 12000 (drop ((n * h + q) * 12000) frame)) h q) n) e)

@@ -6,3 +6,4 @@ pub mod Faults
 pub mod Records
 pub mod Judging
 pub mod Calls
+pub mod Known

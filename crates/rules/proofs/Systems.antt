@@ -1,7 +1,7 @@
 -- Laws of the four systems. Assumes nothing.
-use mathlib.Core.Path.{_≡_, refl}
+use mathlib.Core.Path.{_≡_, refl, sym, ap, _∙_}
 use mathlib.Core.Logic.{_⊎_, inl, inr}
-use Prim.Native.Nat.{ℕ, _*_, _≤_, _<_}
+use Prim.Native.Nat.{ℕ, _+_, _*_, _≤_, _<_}
 use native.Mathlib.Omega.{arith}
 use borrow.Author.Tests.{ne-eqb}
 use Rattle.base.specs.Pick.{pick}
@@ -9,7 +9,7 @@ use Rattle.rules.specs.declared.System.{System}
 use Rattle.rules.specs.declared.System.the-variants.{I60, I50, P60, P50}
 use Rattle.rules.specs.declared.SystemNumber.{SystemNumber}
 use Rattle.rules.specs.declared.SystemNumber.the-variants.{Known, NoSystem}
-use Rattle.rules.specs.Systems.{sequencesOf, systemOf, numberOf, sequencesIn}
+use Rattle.rules.specs.Systems.{sequencesOf, rateOf, systemOf, numberOf}
 
 -- ---- systemOf
 
@@ -45,3 +45,11 @@ sequences-le I60 = omega arith
 sequences-le I50 = omega arith
 sequences-le P60 = omega arith
 sequences-le P50 = omega arith
+
+-- ---- rateOf
+
+pub rate-sequences : (y : System) → sequencesOf y ≡ 10 + 2 * rateOf y
+rate-sequences I60 = refl
+rate-sequences I50 = refl
+rate-sequences P60 = refl
+rate-sequences P50 = refl

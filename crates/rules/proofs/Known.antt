@@ -1,0 +1,13 @@
+-- The known places of document 01 agree with the rules: one table, one statement. Assumes nothing.
+use lib.Dec.{T}
+use Rattle.base.specs.Calls.{firstOf}
+use Rattle.base.specs.Pick.{pick}
+use Rattle.base.specs.Run.{run, tab}
+use Rattle.rules.specs.Places.{sectionOf, places, entryAt}
+use Rattle.rules.specs.Ids.{channelOf, namedBy, idAnswer, idBytes, idAt}
+use Rattle.rules.specs.Faults.{misnamed, faultOf, faultAt}
+use Rattle.rules.specs.Known.{agrees, all, table}
+
+pub known-places : T (all table)
+unfolding table all agrees places entryAt run tab idAt idBytes idAnswer namedBy sectionOf channelOf faultAt faultOf misnamed firstOf pick
+known-places = tt
