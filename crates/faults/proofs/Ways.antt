@@ -1,12 +1,12 @@
 -- The ways out of the public calls. s is what the code's `system_of` answers, n the frame's bytes. Assumes nothing.
 use mathlib.Core.Path.{_≡_, refl, sym, ap, _∙_}
-use mathlib.Core.Bool.{Bool, true, false, _||_}
+use mathlib.Core.Bool.{Bool, true, false, not, _||_}
 use mathlib.Core.List.{List, []}
-use Prim.Native.Nat.{ℕ, _+_, _*_, _-_, _/_, _≤_, _<_, min}
+use Prim.Native.Nat.{ℕ, _+_, _*_, _-_, _≤_}
 use native.Mathlib.Omega.{arith}
-use lib.Dec.{leb}
+use lib.Dec.{leb, eqb}
 use lib.ListN.{length, take, drop}
-use borrow.Author.Tests.{leb-false}
+use borrow.Author.Tests.{leb-false, eqb-true, eqb-false, not-true, not-false}
 use Rattle.base.proofs.Parts.{range-part}
 use Rattle.base.proofs.Picks.{neither}
 use Rattle.rules.specs.declared.System.{System}
@@ -22,7 +22,7 @@ use Rattle.rules.specs.Survey.{outsideSequences, refusal, FrameSurveyed, Sequen
 use Rattle.rules.specs.View.{viewNumber, viewPart, ViewNumbered, Viewed}
 use Rattle.rules.proofs.Systems.{sequences-le}
 use Rattle.rules.proofs.Calls.{survey-done, survey-stopped, survey-0, survey-1, survey-2, sequence-0, sequence-1, sequence-3, sequence-4, inside-means, view-1, view-2, view-3, view-fault, view-zero, view-refused, view-taken}
-use Rattle.faults.specs.Asked.{InSequence, PartAsked, InFrame, StartIs}
+use Rattle.faults.specs.Asked.{InSequence, PartAsked, InFrame, StartIs, tallied}
 
 module _ (k : ℕ) (s : SystemNumber) (es : s ≡ systemOf k) where
   known-as : (t : SystemNumber) → s ≡ t → systemOf k ≡ t
@@ -37,36 +37,37 @@ module _ (k : ℕ) (s : SystemNumber) (es : s ≡ systemOf k) where
     pub frame-wrong-length : (y : System) (n : ℕ) → s ≡ Known y → n ≡ 48000 * sequencesOf y → (length frame ≡ n → ⊥) → r ≡ refusal 2 → FrameSurveyed k frame list r list
     frame-wrong-length y n e en d er = survey-stopped _ _ list _ r (survey-2 k (length frame) y (known-as (Known y) e) (λ z. d (z ∙ sym en))) er
 
-  pub frame-surveyed : (frame list list′ : List ℕ) (y : System) (n t b : ℕ) → s ≡ Known y → n ≡ 48000 * sequencesOf y → length frame ≡ n
-      → Noted list 0 (frameFaults y frame) list′ t → b ≡ min (length list / 4) t → FrameSurveyed k frame list (record { number = 0; total = t; kept = b }) list′
-  frame-surveyed frame list list′ y n t b e en el nt eb =
+  pub frame-surveyed : (frame list list′ : List ℕ) (y : System) (n t : ℕ) (r : Survey) → s ≡ Known y → n ≡ 48000 * sequencesOf y → length frame ≡ n
+      → Noted list 0 (frameFaults y frame) list′ t → r ≡ tallied t (length list) → FrameSurveyed k frame list r list′
+  frame-surveyed frame list list′ y n t r e en el nt er =
       let known = known-as (Known y) e in
       let all : frameFaults y frame ≡ faultsIn (systemOf k) frame = rw known refl in
-      survey-done _ _ list list′ t b (survey-0 k (length frame) y known (el ∙ en)) (rw all at nt) eb
+      rw er (survey-done _ _ list list′ t _ (survey-0 k (length frame) y known (el ∙ en)) (rw all at nt) refl)
 
-  -- ---- survey_sequence: o is the code's `outside`
+  -- ---- survey_sequence: o is the code's `out`
 
-  module _ (h q : ℕ) (part list : List ℕ) where
-    pub sequence-no-system : (r : Survey) → s ≡ NoSystem → r ≡ refusal 1 → SequenceSurveyed k h q part list r list
-    sequence-no-system r e er = survey-stopped _ _ list _ r (sequence-1 k h q (length part) (known-as NoSystem e)) er
+  module _ (h q : ℕ) (part list : List ℕ) (r : Survey) where
+    pub sequence-no-system : s ≡ NoSystem → r ≡ refusal 1 → SequenceSurveyed k h q part list r list
+    sequence-no-system e er = survey-stopped _ _ list _ r (sequence-1 k h q (length part) (known-as NoSystem e)) er
 
     module _ (y : System) (e : s ≡ Known y) (o : Bool) (eo : o ≡ outsideSequences (Known y) h q) where
-      pub sequence-outside : (r : Survey) → o ≡ true → r ≡ refusal 3 → SequenceSurveyed k h q part list r list
-      sequence-outside r t er = survey-stopped _ _ list _ r (sequence-3 k h q (length part) y (known-as (Known y) e) (sym eo ∙ t)) er
+      pub sequence-outside : o ≡ true → r ≡ refusal 3 → SequenceSurveyed k h q part list r list
+      sequence-outside t er = survey-stopped _ _ list _ r (sequence-3 k h q (length part) y (known-as (Known y) e) (sym eo ∙ t)) er
 
       module _ (f : o ≡ false) where
-        pub sequence-wrong-length : (r : Survey) → (length part ≡ 12000 → ⊥) → r ≡ refusal 4 → SequenceSurveyed k h q part list r list
-        sequence-wrong-length r d er = survey-stopped _ _ list _ r (sequence-4 k h q (length part) y (known-as (Known y) e) (sym eo ∙ f) d) er
+        pub sequence-wrong-length : not (eqb (length part) 12000) ≡ true → r ≡ refusal 4 → SequenceSurveyed k h q part list r list
+        sequence-wrong-length d er = survey-stopped _ _ list _ r (sequence-4 k h q (length part) y (known-as (Known y) e) (sym eo ∙ f) (eqb-false _ _ (not-true _ d))) er
 
-        pub sequence-surveyed : (list′ : List ℕ) (t b : ℕ) → length part ≡ 12000 → Noted list 0 (sequenceFaults part h q) list′ t → b ≡ min (length list / 4) t
-            → SequenceSurveyed k h q part list (record { number = 0; total = t; kept = b }) list′
-        sequence-surveyed list′ t b el nt eb = survey-done _ _ list list′ t b (sequence-0 k h q (length part) y (known-as (Known y) e) (sym eo ∙ f) el) nt eb
+        pub sequence-surveyed : (list′ : List ℕ) (t : ℕ) → not (eqb (length part) 12000) ≡ false → Noted list 0 (sequenceFaults part h q) list′ t → r ≡ tallied t (length list)
+            → SequenceSurveyed k h q part list r list′
+        sequence-surveyed list′ t el nt er =
+            rw er (survey-done _ _ list list′ t _ (sequence-0 k h q (length part) y (known-as (Known y) e) (sym eo ∙ f) (eqb-true _ _ (not-false _ el))) nt refl)
 
 -- what the survey of the one sequence asks
-pub sequence-asked : (h q : ℕ) (part : List ℕ) (y : System) (o : Bool) → o ≡ outsideSequences (Known y) h q → o ≡ false → length part ≡ 12000 → PartAsked part h q 0
+pub sequence-asked : (h q : ℕ) (part : List ℕ) (y : System) (o : Bool) → o ≡ outsideSequences (Known y) h q → o ≡ false → not (eqb (length part) 12000) ≡ false → PartAsked part h q 0
 sequence-asked h q part y o eo f e =
     let i = inside-means y h q (sym eo ∙ f) in
-    record { whole = e; sequence = record { channel = i .0; sequence = omega (arith, i .1, sequences-le y) }; few = omega arith }
+    record { whole = eqb-true _ _ (not-false _ e); sequence = record { channel = i .0; sequence = omega (arith, i .1, sequences-le y) }; few = omega arith }
 
 -- ---- view_number and view
 
@@ -82,24 +83,24 @@ module _ (k : ℕ) (frame : List ℕ) (h q : ℕ) (p : Place) (s : SystemNumber)
     known = sym es ∙ e
 
     module _ (n : ℕ) (en : n ≡ 48000 * sequencesOf y) where
-      pub view-wrong-length : (length frame ≡ n → ⊥) → ViewNumbered k frame h q p 2
-      view-wrong-length d = record { answer = sym (view-2 k frame h q p y known (λ z. d (z ∙ sym en))) }
+      pub view-wrong-length : not (eqb (length frame) n) ≡ true → ViewNumbered k frame h q p 2
+      view-wrong-length d = record { answer = sym (view-2 k frame h q p y known (λ z. eqb-false _ _ (not-true _ d) (z ∙ sym en))) }
 
-      module _ (el : length frame ≡ n) (o : Bool) (eo : o ≡ outsideSequences (Known y) h q) where
+      module _ (el : not (eqb (length frame) n) ≡ false) where
         whole : length frame ≡ 48000 * sequencesOf y
-        whole = el ∙ en
+        whole = eqb-true _ _ (not-false _ el) ∙ en
 
-        pub view-outside : (o || leb 150 (p .0)) ≡ true → ViewNumbered k frame h q p 3
-        view-outside t = record { answer = sym (view-3 k frame h q p y known whole (rw eo at t)) }
+        pub view-within : (at : ℕ) → StartIs y h q (p .0) at → at + 80 ≤ length frame
+        view-within at st = omega (arith, st .within, whole)
 
-        module _ (f : (o || leb 150 (p .0)) ≡ false) where
-          pub view-at : (at r : ℕ) → StartIs y h q (p .0) at → r ≡ faultAt (take (at + 80 - at) (drop at frame)) h q (p .0) → ViewNumbered k frame h q p r
+        module _ (o : Bool) (eo : o ≡ outsideSequences (Known y) h q) where
+          pub view-outside : (o || leb 150 (p .0)) ≡ true → ViewNumbered k frame h q p 3
+          view-outside t = record { answer = sym (view-3 k frame h q p y known whole (rw eo at t)) }
+
+          pub view-at : (o || leb 150 (p .0)) ≡ false → (at r : ℕ) → StartIs y h q (p .0) at → r ≡ faultAt (take (at + 80 - at) (drop at frame)) h q (p .0) → ViewNumbered k frame h q p r
           unfolding blockAt
-          view-at at r st er =
+          view-at f at r st er =
               record { answer = er ∙ rw (range-part at 80 frame, st .is) refl ∙ sym (view-fault k frame h q p y known whole (rw eo at f)) }
-
-          pub view-within : (at : ℕ) → StartIs y h q (p .0) at → at + 80 ≤ length frame
-          view-within at st = omega (arith, st .within, whole)
 
     -- r is the number
     module _ (r : ℕ) (er : ViewNumbered k frame h q p r) where

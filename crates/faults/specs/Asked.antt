@@ -1,9 +1,10 @@
 -- What the private functions ask and say.
 use mathlib.Core.Path.{_≡_}
 use mathlib.Core.List.{List}
-use Prim.Native.Nat.{ℕ, _+_, _*_, _≤_, _<_}
+use Prim.Native.Nat.{ℕ, _+_, _*_, _/_, _≤_, _<_, min}
 use lib.ListN.{length, getD}
 use Rattle.rules.specs.declared.System.{System}
+use Rattle.rules.specs.declared.Survey.{Survey}
 use Rattle.rules.specs.Systems.{sequencesOf}
 use Rattle.rules.specs.Places.{place, entryAt}
 use Rattle.rules.specs.Blocks.{startOf}
@@ -62,3 +63,7 @@ pub record StartIs (y : System) (h q p r : ℕ) : Type 0 where
   pub is : r ≡ startOf y h q p
   pub within : r + 80 ≤ 48000 * sequencesOf y
   pub small : r < 576000
+
+-- what a survey that went through answers: its total t, of a list of so many numbers
+abbrev pub tallied : ℕ → ℕ → Survey
+tallied t size = record { number = 0; total = t; kept = min (size / 4) t }

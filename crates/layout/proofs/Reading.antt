@@ -3,7 +3,8 @@ use mathlib.Core.Path.{_≡_, refl, sym, ap, _∙_}
 use mathlib.Core.List.{List}
 use Prim.Native.Nat.{ℕ, _/_, _%_, _≤_, _<_}
 use native.Mathlib.Omega.{arith}
-use lib.ListN.{length, getD, take, length-take}
+use lib.ListN.{length, getD, take}
+use lib.Seq.{take-all}
 use Rattle.base.specs.Bytes.{Byte}
 use Rattle.rules.specs.declared.Section.{Section}
 use Rattle.rules.specs.declared.IdAnswer.{IdAnswer}
@@ -26,6 +27,6 @@ module _ (id : List ℕ) (b0 : ℕ) (e : length id ≡ 3) (byte0 : Byte (getD id
   named b1 b2 s h byte1 byte2 l es eh =
       record { answer = rw (es, eh, byte0 .is, byte1 .is, byte2 .is) refl ∙ sym (read-id-0 id e (rw (byte0 .is) at l)) }
 
--- a block of fewer than three bytes has no ID
-pub short-block : (block : List ℕ) → length block < 3 → WrongLength ≡ blockAnswer block
-short-block block l = sym (read-id-4 (take 3 block) (λ e. omega (arith, e, length-take 3 block)))
+-- a block of fewer than three bytes is all of its ID
+pub short-block : (block : List ℕ) (r : IdAnswer) → length block < 3 → IdRead block r → r ≡ blockAnswer block
+short-block block r l a = a .answer ∙ ap idAnswer (sym (take-all 3 block (omega arith)))

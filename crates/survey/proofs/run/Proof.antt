@@ -5,11 +5,6 @@ use Rattle.survey.specs.Program.{Going}
 use Rattle.survey.proofs.Reading.{going-start, going-asks, going-more, going-done, wrong-length}
 use Rattle.survey.proofs.run.Statement.{statement}
 use Rattle.survey.proofs.run.Tie as tie
-use Rattle.survey.proofs.run.Reads as reads
-use Rattle.survey.proofs.run.Lts as lts
-use Rattle.io.proofs.read_full.Reads as read-full-reads
-use Rattle.survey.proofs.add.Reads as add-reads
-use Rattle.survey.proofs.read_on.Reads as read-on-reads
 
 abbrev Inv-loop : tie.InvT-loop
 Inv-loop system first buf₀ list₀ n t₀ got₀ h₀ q₀ k₀ buf list t got h q k = (k ≤ 48) × Going system n k h q buf₀ list₀ buf list t
@@ -17,87 +12,66 @@ Inv-loop system first buf₀ list₀ n t₀ got₀ h₀ q₀ k₀ buf list t got
 abbrev μ-loop : tie.MeasureT-loop
 μ-loop system first buf₀ list₀ n t₀ got₀ h₀ q₀ k₀ buf list t got h q k = 4 * n - k
 
--- src/main.rt:39:18
 mul-n : tie.Need-mul-n Inv-loop μ-loop
 mul-n c = search needs
 
--- src/main.rt:39:13
 add-n : tie.Need-add-n Inv-loop μ-loop
 add-n c = search needs
 
--- src/main.rt:45:5
 loop-holds : tie.Need-loop-holds Inv-loop μ-loop
 loop-holds c = (omega arith, search (going-start, needs))
 
--- src/main.rt:45:15
 mul-loop : tie.Need-mul-loop Inv-loop μ-loop
 mul-loop c = search needs
 
--- src/main.rt:47:13
 same-length : tie.Need-same-length Inv-loop μ-loop
 same-length c = search needs
 
--- src/main.rt:47:13
 same-length-2 : tie.Need-same-length-2 Inv-loop μ-loop
 same-length-2 c = search needs
 
--- src/main.rt:47:13
 returns : tie.Need-returns Inv-loop μ-loop
 returns c = search (wrong-length, needs)
 
--- src/main.rt:49:9
 add-requires : tie.Need-add-requires Inv-loop μ-loop
 add-requires c κs = search (going-asks, needs)
 
--- src/main.rt:50:9
 read-full-requires : tie.Need-read-full-requires Inv-loop μ-loop
 read-full-requires c κs = search needs
 
--- src/main.rt:51:9
 add-k : tie.Need-add-k Inv-loop μ-loop
 add-k c = search needs
 
--- src/main.rt:52:13
 div-h : tie.Need-div-h Inv-loop μ-loop
 div-h c = search needs
 
--- src/main.rt:53:13
 rem-q : tie.Need-rem-q Inv-loop μ-loop
 rem-q c = search needs
 
--- src/main.rt:45:5
 loop-less : tie.Need-loop-less Inv-loop μ-loop
 loop-less c = search needs
 
--- src/main.rt:45:5
 loop-again : tie.Need-loop-again Inv-loop μ-loop
 loop-again c = (search needs, search (going-more, needs))
 
--- src/main.rt:56:9
 read-on-requires : tie.Need-read-on-requires Inv-loop μ-loop
 read-on-requires c κs = search needs
 
--- src/main.rt:57:9
 same-length-3 : tie.Need-same-length-3 Inv-loop μ-loop
 same-length-3 c = search needs
 
--- src/main.rt:57:9
 same-length-4 : tie.Need-same-length-4 Inv-loop μ-loop
 same-length-4 c = search needs
 
--- src/main.rt:57:9
 returns-2 : tie.Need-returns-2 Inv-loop μ-loop
 returns-2 c = search (wrong-length, needs)
 
--- src/main.rt:35:1
 same-length-5 : tie.Need-same-length-5 Inv-loop μ-loop
 same-length-5 c = search needs
 
--- src/main.rt:35:1
 same-length-6 : tie.Need-same-length-6 Inv-loop μ-loop
 same-length-6 c = search needs
 
--- src/main.rt:35:1
 returns-3 : tie.Need-returns-3 Inv-loop μ-loop
 returns-3 c = search (going-done, needs)
 

@@ -1,0 +1,13 @@
+use borrow.Author.Needs.{needs}
+use Rattle.faults.proofs.Naming.{judged-word}
+use Rattle.faults.proofs.block.judged.Statement.{statement}
+use Rattle.faults.proofs.block.judged.Tie as tie
+
+word-requires : tie.Need-word-requires
+word-requires c κs = search needs
+
+returns : tie.Need-returns
+returns c = search (judged-word, needs)
+
+pub judged-spec : {M : Type 1} → statement M
+judged-spec = tie.close (tie.spec word-requires returns)

@@ -1,0 +1,78 @@
+use mathlib.Core.Path.{_≡_}
+use Prim.Native.Nat.{_+_, _*_, _-_, _≤_}
+use native.Mathlib.Omega.{arith}
+use borrow.Author.Needs.{needs}
+use Rattle.base.specs.Run.{run}
+use Rattle.rules.specs.Faults.{partFaults}
+use Rattle.rules.specs.Noting.{Noted}
+use Rattle.rules.specs.Systems.{sequencesOf}
+use Rattle.rules.proofs.Records.{noted-start, noted-length}
+use Rattle.faults.proofs.Noting.{part-fits, part-asked, part-turn, parts-done}
+use Rattle.faults.proofs.frame.survey_channel.Statement.{statement}
+use Rattle.faults.proofs.frame.survey_channel.Tie as tie
+
+abbrev Inv-loop : tie.InvT-loop
+Inv-loop frame y h from list₀ t total₀ at₀ q₀ list total at q =
+    (q ≤ sequencesOf y) × ((at ≤ 432000 + q * 12000) × ((at ≡ from + q * 12000) × Noted list₀ t (run (partFaults y frame h) q) list total))
+
+abbrev μ-loop : tie.MeasureT-loop
+μ-loop frame y h from list₀ t total₀ at₀ q₀ list total at q = sequencesOf y - q
+
+loop-holds : tie.Need-loop-holds Inv-loop μ-loop
+loop-holds c = (omega arith, (omega arith, (omega arith, noted-start _ _ _)))
+
+sequences-requires : tie.Need-sequences-requires Inv-loop μ-loop
+sequences-requires c κs = search needs
+
+add-survey-part : tie.Need-add-survey-part Inv-loop μ-loop
+add-survey-part c = search needs
+
+sub-survey-part : tie.Need-sub-survey-part Inv-loop μ-loop
+sub-survey-part c = omega arith
+
+part-survey-part-start : tie.Need-part-survey-part-start Inv-loop μ-loop
+part-survey-part-start c = omega arith
+
+part-survey-part-end : tie.Need-part-survey-part-end Inv-loop μ-loop
+part-survey-part-end c = search (part-fits, needs)
+
+survey-part-requires : tie.Need-survey-part-requires Inv-loop μ-loop
+survey-part-requires c κs = search (part-asked, needs)
+
+add-at : tie.Need-add-at Inv-loop μ-loop
+add-at c = search needs
+
+add-q : tie.Need-add-q Inv-loop μ-loop
+add-q c = search needs
+
+loop-less : tie.Need-loop-less Inv-loop μ-loop
+loop-less c = search needs
+
+loop-again : tie.Need-loop-again Inv-loop μ-loop
+loop-again c = (omega arith, (omega arith, (omega arith, search (part-turn, needs))))
+
+same-length : tie.Need-same-length Inv-loop μ-loop
+same-length c = search (noted-length, needs)
+
+returns : tie.Need-returns Inv-loop μ-loop
+returns c = search (parts-done, needs)
+
+pub survey-channel-spec : {M : Type 1} → statement M
+survey-channel-spec =
+    tie.close
+    (tie.spec
+    Inv-loop
+    μ-loop
+    loop-holds
+    sequences-requires
+    add-survey-part
+    sub-survey-part
+    part-survey-part-start
+    part-survey-part-end
+    survey-part-requires
+    add-at
+    add-q
+    loop-less
+    loop-again
+    same-length
+    returns)

@@ -1,0 +1,13 @@
+use mathlib.Core.Path.{refl}
+use borrow.Author.Needs.{needs}
+use Rattle.faults.proofs.sequence.outside.Statement.{statement}
+use Rattle.faults.proofs.sequence.outside.Tie as tie
+
+sequences-requires : tie.Need-sequences-requires
+sequences-requires c κs = search needs
+
+returns : tie.Need-returns
+returns c = rw (c .sequences .ensures) refl
+
+pub outside-spec : {M : Type 1} → statement M
+outside-spec = tie.close (tie.spec sequences-requires returns)

@@ -1,0 +1,111 @@
+// The survey of one sequence, block by block.
+ghost use mathlib.Core.Path.{_≡_};
+ghost use Rattle.rules.specs.Faults.{blockFaults, sequenceFaults};
+ghost use Rattle.rules.specs.Noting.{Noted};
+ghost use Rattle.rules.specs.Survey.{outsideSequences, SequenceSurveyed};
+ghost use Rattle.faults.specs.Asked.{BlockAsked, PartAsked};
+use crate::block;
+use crate::list;
+use layout::BLOCK;
+use layout::CHANNELS;
+use layout::PLACES;
+use layout::SEQUENCE;
+use rules::Fault;
+use rules::Place;
+use rules::Survey;
+use rules::System;
+use rules::SystemNumber;
+
+// The survey of one block. The place's entry in print is `printed`, and `key` what DIF channel and sequence add to it.
+fn survey_block(
+    block: &[u8],
+    h: u32,
+    q: u32,
+    p: Place,
+    printed: u32,
+    key: u32,
+    list: &mut [u32],
+    t: u32,
+) -> u32
+    requires { ⌜ BlockAsked (now block) h q (p .0) printed key t ⌝ }
+    ensures { λ r. ⌜ Noted (now (list .entry)) t (blockFaults (now (block .entry)) h q (p .0)) (now (list .exit)) r ⌝ }
+{
+    let id = layout::read_block(block);
+    if block::judged(block) == printed + key {
+        return t;
+    }
+    let fault = block::fault_of(id, h, q, layout::entry_of(printed));
+    if fault == 0 {
+        return t;
+    }
+    list::note(
+        list,
+        t,
+        Fault {
+            channel: h,
+            sequence: q,
+            place: p,
+            fault: fault,
+        },
+    )
+}
+
+// The survey of one sequence's 12,000 bytes, where t faults came before.
+pub(crate) fn survey_part(part: &[u8], h: u32, q: u32, list: &mut [u32], t: u32) -> u32
+    requires { ⌜ PartAsked (now part) h q t ⌝ }
+    ensures { λ r. ⌜ Noted (now (list .entry)) t (sequenceFaults (now (part .entry)) h q) (now (list .exit)) r ⌝ }
+{
+    let table = layout::printed_places();
+    let key = block::key(h, q);
+    let mut total = t;
+    let mut p: u32 = 0;
+    while p < PLACES {
+        let i = p as usize;
+        let at = i * BLOCK;
+        total = survey_block(
+            &part[at..at + BLOCK],
+            h,
+            q,
+            Place(p),
+            table[i],
+            key,
+            list,
+            total,
+        );
+        p += 1;
+    }
+    total
+}
+
+// DIF channel or sequence outside the system.
+pub(crate) fn outside(y: System, h: u32, q: u32) -> bool
+    ensures { λ r. ⌜ r ≡ outsideSequences (SystemNumber.Known y) h q ⌝ }
+{
+    (CHANNELS <= h) | (layout::sequences(y) <= q)
+}
+
+// The survey of one sequence. Refusals: 1, 3, 4.
+pub fn survey_sequence(
+    system: u32,
+    channel: u32,
+    sequence: u32,
+    part: &[u8],
+    list: &mut [u32],
+) -> Survey
+    ensures { λ r. ⌜ SequenceSurveyed system channel sequence (now (part .entry)) (now (list .entry)) r (now (list .exit)) ⌝ }
+{
+    let SystemNumber::Known(y) = layout::system_of(system) else {
+        return list::refused(1);
+    };
+    let out = outside(y, channel, sequence);
+    let misfit = part.len() != SEQUENCE;
+    if out {
+        return list::refused(3);
+    }
+    if misfit {
+        return list::refused(4);
+    }
+    let size = list.len();
+    let total = survey_part(part, channel, sequence, list, 0);
+    list::answered(total, size)
+}
