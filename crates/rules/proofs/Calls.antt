@@ -94,13 +94,13 @@ module _ (k size : ℕ) where
   survey-1 e = rw e refl
 
   module _ (y : System) (known : systemOf k ≡ Known y) where
-    pub survey-2 : (size ≡ 48000 * sequencesOf y → ⊥) → surveyNumber k size ≡ 2
-    unfolding surveyNumber firstOf pick
-    survey-2 d = rw (known, ne-eqb _ _ d) refl
-
     pub survey-0 : size ≡ 48000 * sequencesOf y → surveyNumber k size ≡ 0
     unfolding surveyNumber firstOf pick
     survey-0 e = rw (known, eq-eqb _ _ e) refl
+
+    pub survey-2 : (size ≡ 48000 * sequencesOf y → ⊥) → surveyNumber k size ≡ 2
+    unfolding surveyNumber firstOf pick
+    survey-2 d = rw (known, ne-eqb _ _ d) refl
 
 -- the number of a sequence's survey
 module _ (k h q size : ℕ) where

@@ -35,10 +35,6 @@ use Rattle.rules.proofs.Blocks.{block-in-sequence}
 -- ---- misnamed: 0 exactly when section, channel, Dseq and DBN are all the place's
 
 module _ (b : BlockId) (h q : ℕ) (e : Entry) where
-  pub misnamed-none : b .section ≡ e .section → b .channel ≡ h → b .dseq ≡ q → b .dbn ≡ e .number → misnamed b h q e ≡ 0
-  unfolding misnamed firstOf pick
-  misnamed-none s c d n = rw (eq-eqb _ _ (ap codeOf s), eq-eqb _ _ c, eq-eqb _ _ d, eq-eqb _ _ (ap (λ (k : BlockNumber). k .0) n)) refl
-
   misnamed-zero : misnamed b h q e ≡ 0 → (b .section ≡ e .section) × (b .channel ≡ h) × (b .dseq ≡ q) × (b .dbn ≡ e .number)
   unfolding misnamed
   misnamed-zero z =
@@ -48,6 +44,10 @@ module _ (b : BlockId) (h q : ℕ) (e : Entry) where
       let n = first-zero _ _ _ (d .1) in
       let k : b .dbn .0 ≡ e .number .0 = eqb-true _ _ (not-false _ (n .0)) in
       (code-one _ _ (eqb-true _ _ (not-false _ (s .0))), eqb-true _ _ (not-false _ (c .0)), eqb-true _ _ (not-false _ (d .0)), λ i. record { 0 = k i })
+
+  pub misnamed-none : b .section ≡ e .section → b .channel ≡ h → b .dseq ≡ q → b .dbn ≡ e .number → misnamed b h q e ≡ 0
+  unfolding misnamed firstOf pick
+  misnamed-none s c d n = rw (eq-eqb _ _ (ap codeOf s), eq-eqb _ _ c, eq-eqb _ _ d, eq-eqb _ _ (ap (λ (k : BlockNumber). k .0) n)) refl
 
 -- ---- faultAt
 
@@ -81,32 +81,6 @@ written-names rest h q p hh hq hp =
       dseq = refl;
       dbn = refl;
     })
-
--- ---- how many faults there can be
-
-pub block-faults-le : (block : List ℕ) (h q p : ℕ) → length (blockFaults block h q p) ≤ 1
-unfolding blockFaults pick
-block-faults-le block h q p = by-bool (names block h q p) (λ e. rw e (omega arith)) (λ e. rw e (omega arith))
-
--- of the places below p
-pub places-le : (sequence : List ℕ) (h q p : ℕ) → length (run (placeFaults sequence h q) p) ≤ p
-places-le sequence h q p = omega (arith, run-length-le (placeFaults sequence h q) 1 p (λ j. block-faults-le (blockIn sequence j) h q j))
-
-pub sequence-faults-le : (sequence : List ℕ) (h q : ℕ) → length (sequenceFaults sequence h q) ≤ 150
-unfolding sequenceFaults
-sequence-faults-le sequence h q = places-le sequence h q 150
-
--- of the sequences below q
-pub parts-le : (y : System) (frame : List ℕ) (h q : ℕ) → length (run (partFaults y frame h) q) ≤ 150 * q
-parts-le y frame h q = omega (arith, run-length-le (partFaults y frame h) 150 q (λ j. sequence-faults-le (sequenceAt y frame h j) h j))
-
-channel-faults-le : (y : System) (frame : List ℕ) (h : ℕ) → length (channelFaults y frame h) ≤ 1800
-unfolding channelFaults
-channel-faults-le y frame h = omega (arith, parts-le y frame h (sequencesOf y), sequences-le y)
-
--- of the DIF channels below h
-pub channels-le : (y : System) (frame : List ℕ) (h : ℕ) → length (run (channelFaults y frame) h) ≤ 1800 * h
-channels-le y frame h = omega (arith, run-length-le (channelFaults y frame) 1800 h (channel-faults-le y frame))
 
 -- ---- frameFaults: the blocks that do not name their place, in stream order, and all of them
 
@@ -142,3 +116,29 @@ unfolding frameFaults channelFaults sequenceAt
 faults-sequences y z frame e =
     run-same (channelFaults y frame) (channelFaults z frame) 4 (λ h _.
     ap (λ (n : ℕ). run (λ (q : ℕ). sequenceFaults (take 12000 (drop ((n * h + q) * 12000) frame)) h q) n) e)
+
+-- ---- how many faults there can be
+
+pub block-faults-le : (block : List ℕ) (h q p : ℕ) → length (blockFaults block h q p) ≤ 1
+unfolding blockFaults pick
+block-faults-le block h q p = by-bool (names block h q p) (λ e. rw e (omega arith)) (λ e. rw e (omega arith))
+
+-- of the places below p
+pub places-le : (sequence : List ℕ) (h q p : ℕ) → length (run (placeFaults sequence h q) p) ≤ p
+places-le sequence h q p = omega (arith, run-length-le (placeFaults sequence h q) 1 p (λ j. block-faults-le (blockIn sequence j) h q j))
+
+pub sequence-faults-le : (sequence : List ℕ) (h q : ℕ) → length (sequenceFaults sequence h q) ≤ 150
+unfolding sequenceFaults
+sequence-faults-le sequence h q = places-le sequence h q 150
+
+-- of the sequences below q
+pub parts-le : (y : System) (frame : List ℕ) (h q : ℕ) → length (run (partFaults y frame h) q) ≤ 150 * q
+parts-le y frame h q = omega (arith, run-length-le (partFaults y frame h) 150 q (λ j. sequence-faults-le (sequenceAt y frame h j) h j))
+
+channel-faults-le : (y : System) (frame : List ℕ) (h : ℕ) → length (channelFaults y frame h) ≤ 1800
+unfolding channelFaults
+channel-faults-le y frame h = omega (arith, parts-le y frame h (sequencesOf y), sequences-le y)
+
+-- of the DIF channels below h
+pub channels-le : (y : System) (frame : List ℕ) (h : ℕ) → length (run (channelFaults y frame) h) ≤ 1800 * h
+channels-le y frame h = omega (arith, run-length-le (channelFaults y frame) 1800 h (channel-faults-le y frame))

@@ -14,8 +14,8 @@ use Rattle.base.proofs.Below.{below-at}
 use Rattle.rules.specs.declared.BlockId.{BlockId}
 use Rattle.rules.specs.declared.IdAnswer.{IdAnswer}
 use Rattle.rules.specs.declared.IdAnswer.the-variants.{Named, Reserved, WrongLength}
-use Rattle.rules.specs.Places.{codeOf, sectionOf, place, entryAt}
-use Rattle.rules.specs.Ids.{sectionBits, dseqBits, fscBit, fspBit, dbnByte, channelOf, namedBy, idAnswer, fscOf, fspOf, idBytes, idAt}
+use Rattle.rules.specs.Places.{codeOf}
+use Rattle.rules.specs.Ids.{sectionBits, dseqBits, fscBit, fspBit, dbnByte, channelOf, namedBy, idAnswer, fscOf, fspOf, byte0Of, byte1Of, byte2Of, idBytes}
 use Rattle.rules.proofs.Places.{section-code, code-below}
 
 -- ---- channelOf
@@ -37,7 +37,7 @@ answer-judged a b l s c n =
 
 -- ---- idBytes
 
--- the fields of a second byte
+-- the fields of the second byte, where FSC and FSP are bits
 module _ (q fsc fsp : ℕ) (hq : q < 16) (hc : fsc < 2) (hp : fsp < 2) where
   second-dseq : (q % 16 * 16 + fsc * 8 + fsp * 4 + 3) / 16 ≡ q
   second-dseq = omega (arith, mod-eq-of-lt hq)
@@ -58,8 +58,12 @@ answer-written b hc hd hn =
     let h = b .channel in
     let c : fscOf h < 2 = omega arith in
     let p : fspOf h < 2 = omega arith in
-    let s : (codeOf (b .section) * 32 + 31) / 32 ≡ codeOf (b .section) = omega arith in
-    let l : (codeOf (b .section) * 32 + 31) / 32 < 5 = omega (arith, s, code-below (b .section)) in
+    let section : byte0Of b / 32 ≡ codeOf (b .section) = omega arith in
+    let below : byte0Of b / 32 < 5 = omega (arith, section, code-below (b .section)) in
+    let dseq : byte1Of b / 16 ≡ b .dseq = second-dseq (b .dseq) (fscOf h) (fspOf h) hd c p in
+    let fsc : byte1Of b / 8 % 2 ≡ fscOf h = second-fsc (b .dseq) (fscOf h) (fspOf h) hd c p in
+    let fsp : byte1Of b / 4 % 2 ≡ fspOf h = second-fsp (b .dseq) (fscOf h) (fspOf h) hd c p in
+    let dbn : byte2Of b ≡ b .dbn .0 = mod-eq-of-lt hn in
     pick-true _ _ refl
-    ∙ pick-true _ _ (lt-ltb _ _ l)
-    ∙ rw (s, second-dseq (b .dseq) (fscOf h) (fspOf h) hd c p, second-fsc (b .dseq) (fscOf h) (fspOf h) hd c p, second-fsp (b .dseq) (fscOf h) (fspOf h) hd c p, mod-eq-of-lt hn, section-code (b .section), channel-bits h hc) refl
+    ∙ pick-true _ _ (lt-ltb _ _ below)
+    ∙ rw (section, dseq, fsc, fsp, dbn, section-code (b .section), channel-bits h hc) refl

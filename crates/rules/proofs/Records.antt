@@ -30,6 +30,11 @@ flat-append (f ∷ a) b = ap (λ (l : List ℕ). f .channel ∷ f .sequence ∷ 
 
 -- ---- kept
 
+-- the first faults are kept: they are the kept ones, and then the others
+pub kept-first : (list : List ℕ) (fs : List Fault) → kept list fs ++ drop (room list) fs ≡ fs
+unfolding kept
+kept-first list fs = take-append-drop (room list) fs
+
 pub kept-length : (list : List ℕ) (fs : List Fault) → length (kept list fs) ≡ min (length list / 4) (length fs)
 unfolding kept room
 kept-length list fs = length-take (length list / 4) fs
@@ -51,7 +56,7 @@ take-join (suc n) (x ∷ a) b = ap (λ (l : List Fault). x ∷ l) (take-join n a
 -- the kept records stand first
 pub after-kept : (list : List ℕ) (fs : List Fault) → take (4 * length (kept list fs)) (after list fs) ≡ flat (kept list fs)
 unfolding after
-after-kept list fs = take-at (flat (kept list fs)) (drop (4 * length (kept list fs)) list) (4 * length (kept list fs)) (flat-length (kept list fs))
+after-kept list fs = take-at (flat (kept list fs)) _ (4 * length (kept list fs)) (flat-length (kept list fs))
 
 -- unused entries stay
 pub after-unused : (list : List ℕ) (fs : List Fault) → drop (4 * length (kept list fs)) (after list fs) ≡ drop (4 * length (kept list fs)) list

@@ -77,12 +77,17 @@ fscOf h = h % 2
 abbrev pub fspOf : ℕ → ℕ
 fspOf h = 1 - h / 2 % 2
 
+abbrev pub byte0Of : BlockId → ℕ
+byte0Of b = codeOf (b .section) * 32 + 31
+
+abbrev pub byte1Of : BlockId → ℕ
+byte1Of b = b .dseq % 16 * 16 + fscOf (b .channel) * 8 + fspOf (b .channel) * 4 + 3
+
+abbrev pub byte2Of : BlockId → ℕ
+byte2Of b = b .dbn .0 % 256
+
 unfoldable pub idBytes : BlockId → List ℕ
-idBytes b =
-    (codeOf (b .section) * 32 + 31)
-    ∷ (b .dseq % 16 * 16 + fscOf (b .channel) * 8 + fspOf (b .channel) * 4 + 3)
-    ∷ b .dbn .0 % 256
-    ∷ []
+idBytes b = byte0Of b ∷ byte1Of b ∷ byte2Of b ∷ []
 
 -- the ID of the block at place p of sequence q of DIF channel h
 unfoldable pub idAt : ℕ → ℕ → Place → BlockId

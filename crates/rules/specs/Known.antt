@@ -1,37 +1,41 @@
--- The known places of document 01 that it marks for proof, as one table.
+-- The known places of document 01 that it marks for proof, as one table under one test.
 use mathlib.Core.Bool.{Bool, true, false, _&&_}
 use mathlib.Core.List.{List, [], _∷_}
 use Prim.Native.Nat.{ℕ}
 use lib.Dec.{eqb}
-use lib.ListN.{getD}
-use Rattle.rules.specs.declared.Entry.{Entry}
+use Rattle.rules.specs.declared.Section.{Section}
 use Rattle.rules.specs.declared.Section.the-variants.{Audio, Video}
-use Rattle.rules.specs.Places.{codeOf, place, entryAt, block}
+use Rattle.rules.specs.Places.{codeOf, place, entryAt}
 use Rattle.rules.specs.Ids.{idAt, idBytes}
 use Rattle.rules.specs.Faults.{names}
 
--- an ID in DIF channel h, sequence q, place p; a place's entry
+-- the ID of place p of sequence q of DIF channel h; the block that stands at a place
 pub data Known : Type 0 where
-  id : (h q p : ℕ) → (a b c : ℕ) → Known
-  stands : (p : ℕ) → Entry → Known
+  id : (h q p : ℕ) → List ℕ → Known
+  stands : (p : ℕ) → Section → ℕ → Known
 
--- what the rules say of it
+-- the same numbers
+unfoldable pub same : List ℕ → List ℕ → Bool
+same [] [] = true
+same [] (y ∷ ys) = false
+same (x ∷ xs) [] = false
+same (x ∷ xs) (y ∷ ys) = eqb x y && same xs ys
+
+-- an ID is written so and names its place; a block stands at its place
 unfoldable pub agrees : Known → Bool
-agrees (id h q p a b c) =
-    eqb (getD (idBytes (idAt h q (place p))) 0 0) a && eqb (getD (idBytes (idAt h q (place p))) 1 0) b
-    && eqb (getD (idBytes (idAt h q (place p))) 2 0) c && names (a ∷ b ∷ c ∷ []) h q p
-agrees (stands p e) =
-    eqb (codeOf (entryAt (place p) .section)) (codeOf (e .section)) && eqb (entryAt (place p) .number .0) (e .number .0)
+agrees (id h q p bytes) = same (idBytes (idAt h q (place p))) bytes && names bytes h q p
+agrees (stands p section number) = eqb (codeOf (entryAt (place p) .section)) (codeOf section) && eqb (entryAt (place p) .number .0) number
 
 unfoldable pub all : List Known → Bool
 all [] = true
 all (k ∷ ks) = agrees k && all ks
 
+-- in document 01's order
 unfoldable pub table : List Known
 table =
-    id 0 0 0 0x1F 0x07 0x00
-    ∷ id 3 9 149 0x9F 0x9B 0x86
-    ∷ stands 6 (block Audio 0)
-    ∷ stands 22 (block Audio 1)
-    ∷ stands 149 (block Video 134)
+    id 0 0 0 (0x1F ∷ 0x07 ∷ 0x00 ∷ [])
+    ∷ id 3 9 149 (0x9F ∷ 0x9B ∷ 0x86 ∷ [])
+    ∷ stands 6 Audio 0
+    ∷ stands 22 Audio 1
+    ∷ stands 149 Video 134
     ∷ []
