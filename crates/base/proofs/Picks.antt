@@ -23,6 +23,12 @@ unfolding pick
 pick-zero true x k h = (refl, h)
 pick-zero false x k h = absurd (omega arith)
 
+-- what holds of both holds of the one that is picked
+pub pick-either : {A : Type 0} (P : A → Type 0) (b : Bool) {x y : A} → P x → P y → P (pick b x y)
+unfolding pick
+pick-either P true p q = p
+pick-either P false p q = q
+
 -- ---- firstOf
 
 -- the row whose condition holds, where it comes first

@@ -18,10 +18,10 @@ use Rattle.rules.specs.Places.{place, entryAt}
 use Rattle.rules.specs.Ids.{blockAnswer}
 use Rattle.rules.specs.Blocks.{sequenceAt, blockIn}
 use Rattle.rules.specs.Faults.{faultOf, faultAt, blockFaults, placeFaults, sequenceFaults, partFaults, channelFaults, frameFaults}
-use Rattle.rules.specs.Judging.{printed, PrintedPlaces, entryOf, keyOf}
+use Rattle.rules.specs.Judging.{printed, printedPlaces, entryOf, keyOf}
 use Rattle.rules.specs.Noting.{Noted}
 use Rattle.rules.proofs.Systems.{sequences-le}
-use Rattle.rules.proofs.Places.{entry-printed}
+use Rattle.rules.proofs.Places.{printed-at, entry-printed}
 use Rattle.rules.proofs.Blocks.{before-channel}
 use Rattle.rules.proofs.Faults.{places-le, parts-le, channels-le}
 use Rattle.rules.proofs.Judging.{printed-below, key-below}
@@ -60,7 +60,7 @@ module _ (block : List ℕ) (h q : ℕ) (p : Place) (e k t : ℕ) (list : List �
 -- ---- survey_part: place p of a sequence
 
 module _ (part : List ℕ) (h q t p total : ℕ) (list list′ : List ℕ) (a : PartAsked part h q t) (l : p < 150) (n : Noted list t (run (placeFaults part h q) p) list′ total) where
-  pub block-asked : (table : List ℕ) (k : ℕ) → PrintedPlaces table → k ≡ keyOf h q
+  pub block-asked : (table : List ℕ) (k : ℕ) → table ≡ printedPlaces → k ≡ keyOf h q
       → BlockAsked (take (p * 80 + 80 - p * 80) (drop (p * 80) part)) h q p (getD table p 0) k total
   block-asked table k e ek =
       let long = length-part (p * 80) 80 part (omega (arith, a .whole)) in
@@ -68,7 +68,7 @@ module _ (part : List ℕ) (h q t p total : ℕ) (list list′ : List ℕ) (a : 
         long = rw (range-part (p * 80) 80 part) (omega (arith, long));
         sequence = a .sequence;
         below = l;
-        entry = e .entry p l;
+        entry = rw e (printed-at p l);
         key = ek;
         few = omega (arith, n .total, a .few, places-le part h q p);
       }

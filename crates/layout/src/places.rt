@@ -2,7 +2,7 @@
 ghost use mathlib.Core.Path.{_≡_};
 ghost use Prim.Native.Nat.{_<_};
 ghost use Rattle.rules.specs.Places.{codeOf, sectionOf, blocksOf, entryAt, placeIn, placeOf};
-ghost use Rattle.rules.specs.Judging.{PrintedPlaces, entryOf};
+ghost use Rattle.rules.specs.Judging.{printedPlaces, entryOf};
 use crate::PLACES;
 use rules::BlockNumber;
 use rules::Entry;
@@ -76,7 +76,7 @@ const FIGURE_3: [u32; 150] = [
 
 // The printed table by value: a loop over the places takes it once.
 pub fn printed_places() -> [u32; 150]
-    ensures { λ r. ⌜ PrintedPlaces r ⌝ }
+    ensures { λ r. ⌜ r ≡ printedPlaces ⌝ }
 {
     FIGURE_3
 }

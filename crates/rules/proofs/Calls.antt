@@ -28,7 +28,7 @@ use Rattle.rules.specs.Faults.{faultAt, frameFaults, faultsIn, sequenceF
 use Rattle.rules.specs.Records.{kept, after}
 use Rattle.rules.specs.Noting.{Noted}
 use Rattle.rules.specs.ReadId.{IdRead}
-use Rattle.rules.specs.Survey.{outsideSequences, surveyNumber, sequenceNumber, refusal, surveyAnswer, surveyLeft, Surveyed}
+use Rattle.rules.specs.Survey.{outsideSequences, surveyNumber, sequenceNumber, refusal, surveyAnswer, surveyLeft, Surveyed, FrameSurveyed, SequenceSurveyed}
 use Rattle.rules.specs.View.{viewedBlock, viewNumber, viewPart, ViewNumbered, Viewed}
 use Rattle.rules.proofs.Blocks.{block-length}
 use Rattle.rules.proofs.Records.{kept-length, more-after}
@@ -53,14 +53,21 @@ module _ (id : List ℕ) where
 
 -- ---- survey and survey_sequence
 
-pub survey-one : (number : ℕ) (fs : List Fault) (list : List ℕ) → ExactlyOne (Survey × List ℕ) (λ o. Surveyed number fs list (o .0) (o .1))
+survey-one : (number : ℕ) (fs : List Fault) (list : List ℕ) → ExactlyOne (Survey × List ℕ) (λ o. Surveyed number fs list (o .0) (o .1))
 survey-one number fs list = record {
   outcome = (surveyAnswer number fs list, surveyLeft number fs list);
   meets = record { answer = refl; left = refl };
   only = λ o m i. (m .answer i, m .left i);
 }
 
+pub survey-frame-one : (k : ℕ) (frame list : List ℕ) → ExactlyOne (Survey × List ℕ) (λ o. FrameSurveyed k frame list (o .0) (o .1))
+survey-frame-one k frame list = survey-one _ _ list
+
+pub survey-sequence-one : (k h q : ℕ) (part list : List ℕ) → ExactlyOne (Survey × List ℕ) (λ o. SequenceSurveyed k h q part list (o .0) (o .1))
+survey-sequence-one k h q part list = survey-one _ _ list
+
 module _ {number : ℕ} {fs : List Fault} {list list′ : List ℕ} {r : Survey} (s : Surveyed number fs list r list′) where
+  -- a refusal answers its number and zeros, and leaves the list as it came
   pub survey-refused : (number ≡ 0 → ⊥) → (r ≡ refusal number) × (list′ ≡ list)
   unfolding surveyAnswer surveyLeft
   survey-refused d = (s .answer ∙ pick-false _ _ (ne-eqb _ _ d), s .left ∙ pick-false _ _ (ne-eqb _ _ d))

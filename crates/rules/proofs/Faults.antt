@@ -2,17 +2,19 @@
 use mathlib.Core.Path.{_≡_, refl, sym, ap, _∙_}
 use mathlib.Core.Bool.{Bool, true, false, not}
 use mathlib.Core.List.{List, [], _∷_, _++_}
+use mathlib.Core.Logic.{inl, inr}
 use Prim.Native.Nat.{ℕ, zero, suc, _+_, _*_, _/_, _%_, _≤_, _<_}
 use native.Mathlib.Nat.{div-add-mod}
 use native.Mathlib.Omega.{arith}
 use lib.Dec.{eqb}
 use lib.ListN.{length, take, drop, length-append}
+use lib.Seq.{length-take-le}
 use borrow.Author.Tests.{eq-eqb, eqb-true, not-false}
 use Rattle.base.specs.Calls.{firstOf, _when_}
 use Rattle.base.specs.Pick.{pick}
 use Rattle.base.specs.Run.{run}
 use Rattle.base.proofs.Cases.{by-bool}
-use Rattle.base.proofs.Picks.{first-zero}
+use Rattle.base.proofs.Picks.{first-zero, pick-either}
 use Rattle.base.proofs.Runs.{run-length-le, run-same, run-rows}
 use Rattle.rules.specs.declared.System.{System}
 use Rattle.rules.specs.declared.BlockNumber.{BlockNumber}
@@ -25,11 +27,11 @@ use Rattle.rules.specs.Systems.{sequencesOf}
 use Rattle.rules.specs.Places.{codeOf, place, entryAt}
 use Rattle.rules.specs.Ids.{blockAnswer, idBytes, idAt}
 use Rattle.rules.specs.Blocks.{startOf, blockAt, sequenceAt, blockIn}
-use Rattle.rules.specs.Faults.{misnamed, faultOf, faultAt, NamesPlace, names, blockFaults, placeFaults, sequenceFaults, partFaults, channelFaults, frameFaults}
+use Rattle.rules.specs.Faults.{misnamed, faultOf, faultAt, FaultNumber, NamesPlace, names, blockFaults, placeFaults, sequenceFaults, partFaults, channelFaults, frameFaults}
 use Rattle.rules.specs.Stream.{blocksIn, nthBlock, channelAt, dseqAt, placeAt, named, recordOf, unnamed, failing}
 use Rattle.rules.proofs.Systems.{sequences-some, sequences-le}
 use Rattle.rules.proofs.Places.{code-one, number-below}
-use Rattle.rules.proofs.Ids.{answer-written}
+use Rattle.rules.proofs.Ids.{answer-written, answer-long}
 use Rattle.rules.proofs.Blocks.{block-in-sequence}
 
 -- ---- misnamed: 0 exactly when section, channel, Dseq and DBN are all the place's
@@ -49,6 +51,15 @@ module _ (b : BlockId) (h q : ℕ) (e : Entry) where
   unfolding misnamed firstOf pick
   misnamed-none s c d n = rw (eq-eqb _ _ (ap codeOf s), eq-eqb _ _ c, eq-eqb _ _ d, eq-eqb _ _ (ap (λ (k : BlockNumber). k .0) n)) refl
 
+  misnamed-within : FaultNumber (misnamed b h q e)
+  unfolding misnamed firstOf
+  misnamed-within =
+      pick-either FaultNumber _ (inr (omega arith, omega arith))
+      (pick-either FaultNumber _ (inr (omega arith, omega arith))
+      (pick-either FaultNumber _ (inr (omega arith, omega arith))
+      (pick-either FaultNumber _ (inr (omega arith, omega arith))
+      (inl refl))))
+
 -- ---- faultAt
 
 -- "A block names its place when section, channel, Dseq and DBN all do."
@@ -67,6 +78,16 @@ pub names-fault : (block : List ℕ) (h q p : ℕ) → NamesPlace block h q p �
 unfolding faultAt faultOf
 names-fault block h q p n =
     rw (n .named) (misnamed-none (n .id) h q (entryAt (place p)) (n .section) (n .channel) (n .dseq) (n .dbn))
+
+-- none, or one of 11 to 15
+pub fault-within : (block : List ℕ) (h q p : ℕ) → 3 ≤ length block → FaultNumber (faultAt block h q p)
+unfolding faultAt faultOf
+fault-within block h q p long = by-answer (blockAnswer block) refl
+  where
+    by-answer : (a : IdAnswer) → blockAnswer block ≡ a → FaultNumber (faultOf a h q (entryAt (place p)))
+    by-answer (Named b) e = misnamed-within b h q (entryAt (place p))
+    by-answer Reserved e = inr (omega arith, omega arith)
+    by-answer WrongLength e = absurd (answer-long (take 3 block) (length-take-le 3 block long) e)
 
 -- a block that begins with the ID of its place names it
 pub written-names : (rest : List ℕ) (h q p : ℕ) → h < 4 → q < 16 → p < 150 → faultAt (idBytes (idAt h q (place p)) ++ rest) h q p ≡ 0

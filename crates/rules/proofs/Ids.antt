@@ -35,6 +35,15 @@ answer-judged a b l s c n =
     let g : fspBit a ≡ fspBit b = omega arith in
     rw (l, s, d, f, g, n) refl
 
+-- three bytes have an answer
+pub answer-long : (id : List ℕ) → length id ≡ 3 → idAnswer id ≡ WrongLength → ⊥
+unfolding idAnswer pick
+answer-long id e w = three (ltb (sectionBits id) 5) (rw (eq-eqb _ _ e) at w)
+  where
+    three : (b : Bool) → pick b (Named (namedBy id)) Reserved ≡ WrongLength → ⊥
+    three true z = let q : _≡_ {A = ℕ} 0 1 = cc in omega arith
+    three false z = let q : _≡_ {A = ℕ} 0 1 = cc in omega arith
+
 -- ---- idBytes
 
 -- the fields of the second byte, where FSC and FSP are bits

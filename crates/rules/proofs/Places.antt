@@ -1,7 +1,6 @@
 -- Laws of sections and of the 150 places, each of the places proved once over all of them. Assumes nothing.
 use mathlib.Core.Path.{_≡_, refl, sym, ap, _∙_, subst}
 use mathlib.Core.Bool.{Bool, true, false, _&&_}
-use mathlib.Core.List.{List}
 use Prim.Native.Nat.{ℕ, _+_, _*_, _/_, _%_, _≤_, _<_}
 use native.Mathlib.Omega.{arith}
 use lib.Dec.{T, eqb, ltb, eqb→eq, ltb→lt}
@@ -19,7 +18,7 @@ use Rattle.rules.specs.declared.Entry.{Entry}
 use Rattle.rules.specs.declared.Found.{Found}
 use Rattle.rules.specs.declared.Found.the-variants.{At, Nowhere}
 use Rattle.rules.specs.Places.{codeOf, sectionOf, blocksOf, place, block, places, entryAt, placeIn, placeOf}
-use Rattle.rules.specs.Judging.{printed, PrintedPlaces, entryOf}
+use Rattle.rules.specs.Judging.{printed, printedPlaces, entryOf}
 
 -- ---- codeOf, sectionOf
 
@@ -136,13 +135,14 @@ blocks-le Video = omega arith
 pub number-below : (p : ℕ) → p < 150 → entryAt (place p) .number .0 < 135
 number-below p h = omega (arith, entry-number-below p h, blocks-le (entryAt (place p) .section))
 
--- ---- PrintedPlaces
+-- ---- printedPlaces, entryOf
 
--- a table is right by one test over its 150 entries
-pub printed-places : (table : List ℕ) → T (below (λ (p : ℕ). eqb (getD table p 0) (printed (entryAt (place p)))) 150) → PrintedPlaces table
-printed-places table t = record { entry = λ p h. eqb→eq _ _ (below-at (λ (k : ℕ). eqb (getD table k 0) (printed (entryAt (place k)))) 150 t p h) }
+prints : ℕ → Bool
+prints p = eqb (getD printedPlaces p 0) (printed (entryAt (place p)))
 
--- ---- entryOf
+pub printed-at : (p : ℕ) → p < 150 → getD printedPlaces p 0 ≡ printed (entryAt (place p))
+unfolding prints printedPlaces entryAt places run tab
+printed-at p h = eqb→eq _ _ (below-at prints 150 tt p h)
 
 pub entry-printed : (e : Entry) → entryOf (printed e) ≡ e
 unfolding entryOf

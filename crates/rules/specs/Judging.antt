@@ -1,8 +1,8 @@
 -- The judged bits of an ID as one number, its first byte lowest: what a survey compares before it asks which fault.
-use mathlib.Core.Path.{_≡_}
 use mathlib.Core.List.{List}
-use Prim.Native.Nat.{ℕ, _+_, _*_, _/_, _%_, _<_}
+use Prim.Native.Nat.{ℕ, _+_, _*_, _/_, _%_}
 use lib.ListN.{getD}
+use Rattle.base.specs.Run.{tab}
 use Rattle.rules.specs.declared.Entry.{Entry}
 use Rattle.rules.specs.Places.{codeOf, sectionOf, place, block, entryAt}
 use Rattle.rules.specs.Ids.{fscOf, fspOf}
@@ -16,8 +16,8 @@ abbrev pub printed : Entry → ℕ
 printed e = 32 * codeOf (e .section) + 65536 * e .number .0
 
 -- the table of places in print
-pub record PrintedPlaces (table : List ℕ) : Type 0 where
-  pub entry : (p : ℕ) → p < 150 → getD table p 0 ≡ printed (entryAt (place p))
+unfoldable pub printedPlaces : List ℕ
+printedPlaces = tab (λ (p : ℕ). printed (entryAt (place p))) 150
 
 -- the entry that a number in print stands for
 unfoldable pub entryOf : ℕ → Entry

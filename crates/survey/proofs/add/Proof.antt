@@ -1,3 +1,4 @@
+-- `survey::add` meets its contract: what is lent is the list behind the kept records. Assumes nothing.
 use borrow.Author.Needs.{needs}
 use Rattle.survey.proofs.Adding.{total-fits, kept-fits, added}
 use Rattle.survey.proofs.add.Statement.{statement}

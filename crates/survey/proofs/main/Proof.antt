@@ -1,3 +1,4 @@
+-- `survey::main` meets its contract: the records that are printed stand in the list. Assumes nothing.
 use borrow.Author.Needs.{needs}
 use Rattle.survey.proofs.Reading.{records-asked}
 use Rattle.survey.proofs.main.Statement.{statement}

@@ -1,3 +1,4 @@
+-- `survey::print_records` meets its contract: each record printed lies in the list. Assumes nothing.
 use Prim.Native.Nat.{_-_, _≤_}
 use borrow.Author.Needs.{needs}
 use Rattle.survey.proofs.print_records.Statement.{statement}

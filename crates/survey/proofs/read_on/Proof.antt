@@ -1,3 +1,4 @@
+-- `survey::read_on` meets its contract: the number of refills left falls. Assumes nothing.
 use mathlib.Core.Path.{_≡_}
 use lib.ListN.{length}
 use borrow.Author.Needs.{needs}

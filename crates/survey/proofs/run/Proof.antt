@@ -1,3 +1,4 @@
+-- `survey::run` meets its contract: the loop has read k sequences, and list and tally are their survey's. Assumes nothing.
 use Prim.Native.Nat.{_*_, _-_, _≤_}
 use native.Mathlib.Omega.{arith}
 use borrow.Author.Needs.{needs}

@@ -1,3 +1,4 @@
+-- `faults::block::fault_at` meets its contract: by the ID's answer and the place's entry. Assumes nothing.
 use mathlib.Core.Path.{refl, _∙_}
 use borrow.Author.Needs.{needs}
 use Rattle.rules.specs.Faults.{faultAt}

@@ -1,3 +1,4 @@
+-- `faults::block::fault_of` meets its contract: answer by answer. Assumes nothing.
 use mathlib.Core.Path.{refl}
 use borrow.Author.Needs.{needs}
 use Rattle.rules.specs.Faults.{faultOf}

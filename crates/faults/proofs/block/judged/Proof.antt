@@ -1,3 +1,4 @@
+-- `faults::block::judged` meets its contract: by the law of the mask. Assumes nothing.
 use borrow.Author.Needs.{needs}
 use Rattle.faults.proofs.Naming.{judged-word}
 use Rattle.faults.proofs.block.judged.Statement.{statement}

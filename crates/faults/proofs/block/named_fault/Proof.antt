@@ -1,3 +1,4 @@
+-- `faults::block::named_fault` meets its contract: one lemma for each way out. Assumes nothing.
 use borrow.Author.Needs.{needs}
 use Rattle.faults.proofs.Naming.{other-section, other-channel, other-dseq, other-number, all-named}
 use Rattle.faults.proofs.block.named_fault.Statement.{statement}

@@ -1,3 +1,4 @@
+-- `faults::frame::survey` meets its contract: one lemma for each way out. Assumes nothing.
 use borrow.Author.Needs.{needs}
 use Rattle.faults.proofs.Ways.{frame-no-system, frame-wrong-length, frame-surveyed}
 use Rattle.faults.proofs.frame.survey.Statement.{statement}

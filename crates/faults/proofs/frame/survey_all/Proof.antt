@@ -1,3 +1,4 @@
+-- `faults::frame::survey_all` meets its contract: the loop has noted the faults of the DIF channels below h, and `from` is where DIF channel h starts. Assumes nothing.
 use mathlib.Core.Path.{_≡_}
 use Prim.Native.Nat.{_*_, _-_, _≤_}
 use native.Mathlib.Omega.{arith}

@@ -1,3 +1,4 @@
+-- `faults::frame::survey_channel` meets its contract: the loop has noted the faults of the sequences below q, and `at` is where sequence q starts. Assumes nothing.
 use mathlib.Core.Path.{_≡_}
 use Prim.Native.Nat.{_+_, _*_, _-_, _≤_}
 use native.Mathlib.Omega.{arith}

@@ -1,3 +1,4 @@
+-- `faults::list::answered` meets its contract: by what is kept. Assumes nothing.
 use mathlib.Core.Path.{refl}
 use borrow.Author.Needs.{needs}
 use Rattle.faults.proofs.list.answered.Statement.{statement}

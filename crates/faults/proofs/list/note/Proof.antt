@@ -1,3 +1,4 @@
+-- `faults::list::note` meets its contract: four stores where there is room, none where there is not. Assumes nothing.
 use mathlib.Core.Path.{refl}
 use native.Mathlib.Omega.{arith}
 use lib.ListN.{length-set}

@@ -1,3 +1,4 @@
+-- `faults::sequence::outside` meets its contract: by the system's sequences. Assumes nothing.
 use mathlib.Core.Path.{refl}
 use borrow.Author.Needs.{needs}
 use Rattle.faults.proofs.sequence.outside.Statement.{statement}

@@ -1,3 +1,4 @@
+-- `faults::sequence::survey_block` meets its contract: the judged bits are the place's, or the fault is 0, or it is noted. Assumes nothing.
 use native.Mathlib.Omega.{arith}
 use borrow.Author.Needs.{needs}
 use Rattle.faults.proofs.Noting.{bits-fit, bits-clean, fault-clean, fault-noted}

@@ -1,3 +1,4 @@
+-- `faults::sequence::survey_part` meets its contract: the loop has noted the faults of the places below p. Assumes nothing.
 use Prim.Native.Nat.{_-_, _≤_}
 use native.Mathlib.Omega.{arith}
 use borrow.Author.Needs.{needs}

@@ -1,3 +1,4 @@
+-- `faults::sequence::survey_sequence` meets its contract: one lemma for each way out. Assumes nothing.
 use borrow.Author.Needs.{needs}
 use Rattle.faults.proofs.Ways.{sequence-no-system, sequence-outside, sequence-wrong-length, sequence-surveyed, sequence-asked}
 use Rattle.faults.proofs.sequence.survey_sequence.Statement.{statement}

@@ -1,3 +1,4 @@
+-- `faults::views::block_start` meets its contract: the sum is the start, and the block ends in the frame. Assumes nothing.
 use native.Mathlib.Omega.{arith}
 use borrow.Author.Needs.{needs}
 use Rattle.rules.proofs.Blocks.{before-channel}

@@ -1,3 +1,4 @@
+-- `faults::views::view` meets its contract: one lemma for each way out. Assumes nothing.
 use borrow.Author.Needs.{needs}
 use Rattle.faults.proofs.Ways.{part-no-system, part-refused, part-in, part-within, part-viewed}
 use Rattle.faults.proofs.views.view.Statement.{statement}

@@ -1,3 +1,4 @@
+-- `faults::views::view_number` meets its contract: one lemma for each way out. Assumes nothing.
 use borrow.Author.Needs.{needs}
 use Rattle.faults.proofs.Ways.{view-no-system, view-wrong-length, view-outside, view-at, view-in, view-within}
 use Rattle.faults.proofs.views.view_number.Statement.{statement}

@@ -1,3 +1,4 @@
+-- `layout::ids::channel` meets its contract: by the two bits. Assumes nothing.
 use mathlib.Core.Path.{refl}
 use borrow.Author.Tests.{eq-eqb, ne-eqb}
 use Rattle.base.specs.Pick.{pick}

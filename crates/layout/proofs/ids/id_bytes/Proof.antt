@@ -1,3 +1,4 @@
+-- `layout::ids::id_bytes` meets its contract: the bytes are the definition's, and fit since a section's number is below 5. Assumes nothing.
 use mathlib.Core.Path.{refl}
 use native.Mathlib.Omega.{arith}
 use borrow.Author.Needs.{needs}

@@ -1,3 +1,4 @@
+-- `layout::ids::read_block` meets its contract: a short block is all of its ID, and of a longer one the first three bytes are lent. Assumes nothing.
 use mathlib.Core.Path.{sym}
 use lib.Seq.{length-take-le}
 use borrow.Author.Needs.{needs}

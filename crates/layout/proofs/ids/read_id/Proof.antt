@@ -1,3 +1,4 @@
+-- `layout::ids::read_id` meets its contract: one lemma for each way out. Assumes nothing.
 use borrow.Author.Needs.{needs}
 use Rattle.layout.proofs.Reading.{wrong-length, reserved, named}
 use Rattle.layout.proofs.ids.read_id.Statement.{statement}

@@ -1,3 +1,5 @@
+-- `layout::places::entry_at` meets its contract: past the table by the definition's stand-in, else by the printed entry. Assumes nothing.
+use Rattle.layout.proofs.Reading.{entry-read}
 use mathlib.Core.Path.{sym, ap, _∙_}
 use borrow.Author.Needs.{needs}
 use Rattle.rules.specs.Judging.{entryOf}
@@ -24,7 +26,7 @@ entry-of-requires : tie.Need-entry-of-requires
 entry-of-requires c κs = search needs
 
 returns-2 : tie.Need-returns-2
-returns-2 c = c .entry-of .ensures ∙ ap entryOf (c .before .printed-places .ensures .entry _ (search needs)) ∙ entry-printed _
+returns-2 c = search (entry-read, needs)
 
 pub entry-at-spec : {M : Type 1} → statement M
 entry-at-spec =

@@ -1,3 +1,4 @@
+-- `layout::places::entry_of` meets its contract: by what the section is. Assumes nothing.
 use mathlib.Core.Path.{refl}
 use borrow.Author.Needs.{needs}
 use Rattle.rules.specs.Judging.{entryOf}

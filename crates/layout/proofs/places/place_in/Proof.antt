@@ -1,3 +1,4 @@
+-- `layout::places::place_in` meets its contract: section by section; the number is below 135. Assumes nothing.
 use mathlib.Core.Path.{refl}
 use native.Mathlib.Omega.{arith}
 use borrow.Author.Needs.{needs}

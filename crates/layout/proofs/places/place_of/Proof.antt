@@ -1,3 +1,4 @@
+-- `layout::places::place_of` meets its contract: by the test against the section's blocks. Assumes nothing.
 use mathlib.Core.Path.{refl}
 use borrow.Author.Needs.{needs}
 use borrow.Author.Tests.{lt-ltb, le-ltb}

@@ -1,3 +1,4 @@
+-- `layout::systems::counts` meets its contract: system by system. Assumes nothing.
 use mathlib.Core.Path.{refl}
 use borrow.Author.Needs.{needs}
 use Rattle.layout.proofs.systems.counts.Statement.{statement}

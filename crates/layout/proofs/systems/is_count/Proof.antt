@@ -1,3 +1,4 @@
+-- `layout::systems::is_count` meets its contract: by the system's counts. Assumes nothing.
 use mathlib.Core.Path.{refl}
 use borrow.Author.Needs.{needs}
 use Rattle.layout.proofs.systems.is_count.Statement.{statement}

@@ -1,3 +1,4 @@
+-- `layout::systems::system_of` meets its contract: number by number. Assumes nothing.
 use mathlib.Core.Path.{refl}
 use borrow.Author.Tests.{ne-eqb}
 use Rattle.base.specs.Pick.{pick}
