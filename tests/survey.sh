@@ -74,4 +74,4 @@ expect pieces-50 'F\t1\t3\t22\t12\nT\t1\t1\n' < <(frame 50 zero:1,3,22 | pieces)
 expect pieces-long 'E\t2\n' < <({ frame 60; printf x; } | pieces)
 
 echo "survey program: $passed cases passed, $failed failed"
-[ "$failed" -eq 0 ] && [ "$passed" -eq "$(grep -c "^expect " "$0")" ]
+[ "$failed" -eq 0 ] && [ "$passed" -eq "$(grep -c "^expect " tests/survey.sh)" ]

@@ -3,8 +3,8 @@ use borrow.Author.Needs.{needs}
 use Rattle.survey.proofs.dsf.Statement.{statement}
 use Rattle.survey.proofs.dsf.Tie as tie
 
-array-read-wide : tie.Need-array-read-wide
-array-read-wide c = search needs
+element-copy-out-wide : tie.Need-element-copy-out-wide
+element-copy-out-wide c = search needs
 
 wide-requires : tie.Need-wide-requires
 wide-requires c κs = search needs
@@ -13,4 +13,4 @@ returns : tie.Need-returns
 returns c = search needs
 
 pub dsf-spec : {M : Type 1} → statement M
-dsf-spec = tie.close (tie.spec array-read-wide wide-requires returns)
+dsf-spec = tie.close (tie.spec element-copy-out-wide wide-requires returns)
