@@ -22,7 +22,7 @@ use Rattle.rules.specs.declared.Fault.{Fault}
 use Rattle.rules.specs.declared.Survey.{Survey}
 use Rattle.rules.specs.Systems.{sequencesOf, systemOf, isNoSystem, sequencesIn, frameBytes}
 use Rattle.rules.specs.Places.{place}
-use Rattle.rules.specs.Ids.{sectionBits, namedBy, idAnswer}
+use Rattle.rules.specs.Ids.{sectionBits, dseqBits, fscBit, fspBit, dbnByte, channelOf, namedBy, idAnswer, idRefusal, idValues}
 use Rattle.rules.specs.Blocks.{blockAt}
 use Rattle.rules.specs.Faults.{faultAt, frameFaults, faultsIn, sequenceFaults}
 use Rattle.rules.specs.Records.{kept, after}
@@ -30,6 +30,7 @@ use Rattle.rules.specs.Noting.{Noted}
 use Rattle.rules.specs.ReadId.{IdRead}
 use Rattle.rules.specs.Survey.{outsideSequences, surveyNumber, sequenceNumber, refusal, surveyAnswer, surveyLeft, Surveyed, FrameSurveyed, SequenceSurveyed}
 use Rattle.rules.specs.View.{viewedBlock, viewNumber, viewPart, ViewNumbered, Viewed}
+use Rattle.rules.proofs.Places.{code-section}
 use Rattle.rules.proofs.Blocks.{block-length}
 use Rattle.rules.proofs.Records.{kept-length, more-after}
 
@@ -50,6 +51,18 @@ module _ (id : List ℕ) where
   pub read-id-0 : length id ≡ 3 → sectionBits id < 5 → idAnswer id ≡ Named (namedBy id)
   unfolding idAnswer
   read-id-0 e s = pick-true _ _ (eq-eqb _ _ e) ∙ pick-true _ _ (lt-ltb _ _ s)
+
+  -- the same in the paper's numbers: a refusal answers its number, otherwise zeros
+  pub read-id-says-4 : (length id ≡ 3 → ⊥) → idValues (idAnswer id) ≡ idRefusal 4
+  read-id-says-4 d = ap idValues (read-id-4 d)
+
+  pub read-id-says-11 : length id ≡ 3 → 5 ≤ sectionBits id → idValues (idAnswer id) ≡ idRefusal 11
+  read-id-says-11 e r = ap idValues (read-id-11 e r)
+
+  pub read-id-says-0 : length id ≡ 3 → sectionBits id < 5
+      → idValues (idAnswer id) ≡ record { number = 0; section = sectionBits id; channel = channelOf (fscBit id) (fspBit id); dseq = dseqBits id; dbn = dbnByte id }
+  unfolding namedBy
+  read-id-says-0 e s = ap idValues (read-id-0 e s) ∙ rw (code-section (sectionBits id) s) refl
 
 -- ---- survey and survey_sequence
 

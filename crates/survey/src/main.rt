@@ -63,22 +63,13 @@ fn read_on(buf: &mut [u8]) {
     }
 }
 
-fn field(x: u32) {
-    io::write_all(1, b"\t");
-    io::print_decimal(1, x as u64);
-}
-
-fn end_line() {
-    io::write_all(1, b"\n");
-}
-
 fn print_record(channel: u32, sequence: u32, place: u32, fault: u32) {
-    io::write_all(1, b"F");
-    field(channel);
-    field(sequence);
-    field(place);
-    field(fault);
-    end_line();
+    lines::start(b"F");
+    lines::field(channel);
+    lines::field(sequence);
+    lines::field(place);
+    lines::field(fault);
+    lines::end();
 }
 
 fn print_records(list: &[u32], kept: u32)
@@ -93,14 +84,16 @@ fn print_records(list: &[u32], kept: u32)
 }
 
 fn print_totals(total: u32, kept: u32) {
-    io::write_all(1, b"T");
-    field(total);
-    field(kept);
-    end_line();
+    lines::start(b"T");
+    lines::field(total);
+    lines::field(kept);
+    lines::end();
 }
 
 fn refuse() {
-    io::write_all(1, b"E\t2\n");
+    lines::start(b"E");
+    lines::field(2);
+    lines::end();
 }
 
 // The first block's DSF bit, which gives the rate: the number of the 1080 system of that rate.
