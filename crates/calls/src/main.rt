@@ -6,6 +6,56 @@ use rules::BlockNumber;
 use rules::IdAnswer;
 use rules::Place;
 use rules::Section;
+use rules::System;
+use rules::SystemNumber;
+
+// The numbers of a system: sequences, positions, counts, macroblocks, rate, STYPE and the frame's thousands of bytes.
+fn system(number: u32) {
+    lines::start(b"system");
+    lines::field(number);
+    match layout::system_of(number) {
+        SystemNumber::Known(y) => numbers(y),
+        SystemNumber::NoSystem => lines::end(),
+    }
+}
+
+fn numbers(y: System) {
+    let counts = layout::counts(y);
+    lines::field(layout::sequences(y));
+    lines::field(layout::positions(y));
+    lines::field(counts.fewer);
+    lines::field(counts.more);
+    lines::field(layout::macroblocks(y));
+    lines::field(layout::rate(y));
+    lines::field(layout::stype(y));
+    lines::field((layout::frame_bytes(y) / 1000 % 65536) as u32);
+    lines::end();
+}
+
+// Which of three numbers are counts of the system, 1 for one that is.
+fn counted(y: System) {
+    lines::start(b"counts");
+    lines::field(flag(layout::is_count(y, 1600)));
+    lines::field(flag(layout::is_count(y, 1602)));
+    lines::field(flag(layout::is_count(y, 1920)));
+    lines::end();
+}
+
+fn flag(b: bool) -> u32 {
+    if b { 1 } else { 0 }
+}
+
+fn systems() {
+    system(0);
+    system(1);
+    system(2);
+    system(3);
+    system(4);
+    counted(System::I60);
+    counted(System::I50);
+    counted(System::P60);
+    counted(System::P50);
+}
 
 fn print_values(number: u32, section: u32, channel: u32, dseq: u32, dbn: u32) {
     lines::start(b"id");
@@ -149,6 +199,7 @@ fn views(frame: &[u8]) {
 
 fn main() {
     let frame = [0u8; 480000];
+    systems();
     ids();
     written(Section::Header, 0, 0, 0);
     written(Section::Video, 3, 9, 134);

@@ -26,8 +26,8 @@ channel-bits h l = eqb→eq _ _ (below-at (λ k. eqb (channelOf (fscOf k) (fspOf
 
 -- ---- idAnswer
 
--- "Other bits are .. ignored on reading": the answer goes by the judged bits alone
-pub answer-judged : (a b : List ℕ) → length a ≡ length b → sectionBits a ≡ sectionBits b → getD a 1 0 / 4 ≡ getD b 1 0 / 4 → dbnByte a ≡ dbnByte b → idAnswer a ≡ idAnswer b
+-- "Other bits are .. ignored on reading": the answer goes by bits 7-5 of byte 0, bits 7-2 of byte 1 and byte 2
+pub answer-judged : (a b : List ℕ) → length a ≡ length b → getD a 0 0 / 32 ≡ getD b 0 0 / 32 → getD a 1 0 / 4 ≡ getD b 1 0 / 4 → getD a 2 0 ≡ getD b 2 0 → idAnswer a ≡ idAnswer b
 unfolding idAnswer namedBy
 answer-judged a b l s c n =
     let d : dseqBits a ≡ dseqBits b = omega arith in

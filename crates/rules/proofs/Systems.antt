@@ -9,7 +9,7 @@ use Rattle.rules.specs.declared.System.{System}
 use Rattle.rules.specs.declared.System.the-variants.{I60, I50, P60, P50}
 use Rattle.rules.specs.declared.SystemNumber.{SystemNumber}
 use Rattle.rules.specs.declared.SystemNumber.the-variants.{Known, NoSystem}
-use Rattle.rules.specs.Systems.{sequencesOf, rateOf, systemOf, numberOf}
+use Rattle.rules.specs.Systems.{sequencesOf, positionsOf, countsOf, rateOf, systemOf, numberOf}
 
 -- ---- systemOf
 
@@ -53,3 +53,19 @@ rate-sequences I60 = refl
 rate-sequences I50 = refl
 rate-sequences P60 = refl
 rate-sequences P50 = refl
+
+-- ---- positionsOf, isCount
+
+-- half of a DIF channel's audio blocks, nine a sequence, of 36 words each
+pub positions-sequences : (y : System) → 2 * positionsOf y ≡ sequencesOf y * 9 * 36
+positions-sequences I60 = refl
+positions-sequences I50 = refl
+positions-sequences P60 = refl
+positions-sequences P50 = refl
+
+-- a system's own counts are below its positions
+pub counts-below : (y : System) → (countsOf y .fewer < positionsOf y) × (countsOf y .more < positionsOf y)
+counts-below I60 = omega arith
+counts-below I50 = omega arith
+counts-below P60 = omega arith
+counts-below P50 = omega arith

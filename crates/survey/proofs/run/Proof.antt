@@ -8,7 +8,7 @@ use Rattle.survey.proofs.run.Statement.{statement}
 use Rattle.survey.proofs.run.Tie as tie
 
 abbrev Inv-loop : tie.InvT-loop
-Inv-loop system first buf₀ list₀ n t₀ got₀ h₀ q₀ k₀ buf list t got h q k = (k ≤ 48) × Going system n k h q buf₀ list₀ buf list t
+Inv-loop system first buf₀ list₀ n t₀ got₀ h₀ q₀ k₀ buf list t got h q k = Going system n k h q buf₀ list₀ buf list t × (k ≤ 48)
 
 abbrev μ-loop : tie.MeasureT-loop
 μ-loop system first buf₀ list₀ n t₀ got₀ h₀ q₀ k₀ buf list t got h q k = 4 * n - k
@@ -20,7 +20,7 @@ add-n : tie.Need-add-n Inv-loop μ-loop
 add-n c = search needs
 
 loop-holds : tie.Need-loop-holds Inv-loop μ-loop
-loop-holds c = (omega arith, search (going-start, needs))
+loop-holds c = (search (going-start, needs), omega arith)
 
 mul-loop : tie.Need-mul-loop Inv-loop μ-loop
 mul-loop c = search needs
@@ -53,7 +53,7 @@ loop-less : tie.Need-loop-less Inv-loop μ-loop
 loop-less c = search needs
 
 loop-again : tie.Need-loop-again Inv-loop μ-loop
-loop-again c = (search needs, search (going-more, needs))
+loop-again c = (search (going-more, needs), search needs)
 
 read-on-requires : tie.Need-read-on-requires Inv-loop μ-loop
 read-on-requires c κs = search needs

@@ -14,7 +14,7 @@ use Rattle.faults.proofs.frame.survey_all.Tie as tie
 
 abbrev Inv-loop : tie.InvT-loop
 Inv-loop frame y list₀ size total₀ from₀ h₀ list total from h =
-    (h ≤ 4) × ((size ≡ 12000 * sequencesOf y) × ((from ≤ 144000 * h) × ((from ≡ sequencesOf y * h * 12000) × Noted list₀ 0 (run (channelFaults y frame) h) list total)))
+    (h ≤ 4) × ((size ≡ 12000 * sequencesOf y) × ((from ≡ sequencesOf y * h * 12000) × ((from ≤ 144000 * h) × Noted list₀ 0 (run (channelFaults y frame) h) list total)))
 
 abbrev μ-loop : tie.MeasureT-loop
 μ-loop frame y list₀ size total₀ from₀ h₀ list total from h = 4 - h
@@ -44,7 +44,7 @@ loop-less : tie.Need-loop-less Inv-loop μ-loop
 loop-less c = search needs
 
 loop-again : tie.Need-loop-again Inv-loop μ-loop
-loop-again c = (omega arith, (search needs, (search (next-small, needs), (search (next-start, needs), search (channel-turn, needs)))))
+loop-again c = (omega arith, (search needs, (search (next-start, needs), (search (next-small, needs), search (channel-turn, needs)))))
 
 same-length : tie.Need-same-length Inv-loop μ-loop
 same-length c = search (noted-length, needs)
