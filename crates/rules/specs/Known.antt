@@ -3,16 +3,26 @@ use mathlib.Core.Bool.{Bool, true, false, _&&_}
 use mathlib.Core.List.{List, [], _∷_}
 use Prim.Native.Nat.{ℕ}
 use lib.Dec.{eqb}
+use Rattle.rules.specs.declared.System.{System}
+use Rattle.rules.specs.declared.System.the-variants.{I60, I50, P60, P50}
+use Rattle.rules.specs.declared.Carried.{Carried}
+use Rattle.rules.specs.declared.Carried.the-variants.{Macroblock, Nothing}
 use Rattle.rules.specs.declared.Section.{Section}
 use Rattle.rules.specs.declared.Section.the-variants.{Audio, Video}
 use Rattle.rules.specs.Places.{codeOf, place, entryAt}
 use Rattle.rules.specs.Ids.{idAt, idBytes}
+use Rattle.rules.specs.Systems.{halfOf}
+use Rattle.rules.specs.Sound.{difOf, sequenceOf, audioOf, byteOf}
+use Rattle.rules.specs.Picture.{slot, carriedIn}
 use Rattle.rules.specs.Faults.{names}
 
--- the ID of place p of sequence q of DIF channel h; the block that stands at a place
+-- the ID of place p of sequence q of DIF channel h; the block that stands at a place; the sequence, audio block and byte of
+-- sample t of audio channel c; the macroblock in slot V(v) of sequence q of DIF channel h
 pub data Known : Type 0 where
   id : (h q p : ℕ) → List ℕ → Known
   stands : (p : ℕ) → Section → ℕ → Known
+  sample : System → (c t : ℕ) → (q a i : ℕ) → Known
+  carries : System → (h q v : ℕ) → ℕ → Known
 
 -- the same numbers
 unfoldable pub same : List ℕ → List ℕ → Bool
@@ -21,10 +31,17 @@ same [] (y ∷ ys) = false
 same (x ∷ xs) [] = false
 same (x ∷ xs) (y ∷ ys) = eqb x y && same xs ys
 
--- an ID is written so and names its place; a block stands at its place
+-- macroblock b is carried
+unfoldable pub is : Carried → ℕ → Bool
+is (Macroblock b) k = eqb b k
+is Nothing k = false
+
+-- an ID is written so and names its place; a block stands at its place; a sample and a macroblock lie where the rules say
 unfoldable pub agrees : Known → Bool
 agrees (id h q p bytes) = same (idBytes (idAt h q (place p))) bytes && names bytes h q p
 agrees (stands p section number) = eqb (codeOf (entryAt (place p) .section)) (codeOf section) && eqb (entryAt (place p) .number .0) number
+agrees (sample y c t q a i) = eqb (sequenceOf (halfOf y) c t) q && (eqb (audioOf (halfOf y) t) a && eqb (byteOf (halfOf y) t) i)
+agrees (carries y h q v b) = is (carriedIn y (slot h q v)) b
 
 unfoldable pub all : List Known → Bool
 all [] = true
@@ -38,4 +55,13 @@ table =
     ∷ stands 6 Audio 0
     ∷ stands 22 Audio 1
     ∷ stands 149 Video 134
+    ∷ sample I60 1 0 0 0 8
+    ∷ sample I60 1 2 4 6 8
+    ∷ sample I60 1 15 0 1 8
+    ∷ sample I60 1 44 3 8 8
+    ∷ sample I60 1 45 0 0 10
+    ∷ sample I60 1 1619 3 8 78
+    ∷ sample I50 1 5 5 6 8
+    ∷ carries I60 1 9 134 2429
+    ∷ carries I50 1 0 0 2349
     ∷ []

@@ -3,6 +3,15 @@ pub mod Systems
 pub mod Places
 pub mod Ids
 pub mod Blocks
+pub mod Packs
+pub mod Header
+pub mod TimeCode
+pub mod Subcode
+pub mod Vaux
+pub mod Aaux
+pub mod Samples
+pub mod Sound
+pub mod Picture
 pub mod Faults
 pub mod Judging
 pub mod Stream
@@ -11,4 +20,6 @@ pub mod Noting
 pub mod ReadId
 pub mod Survey
 pub mod View
+pub mod Written
+pub mod Write
 pub mod Known

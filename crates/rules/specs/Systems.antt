@@ -1,6 +1,6 @@
 -- The four systems (document 01, "The four systems").
 use mathlib.Core.Bool.{Bool, true, false, _||_}
-use Prim.Native.Nat.{ℕ, _*_}
+use Prim.Native.Nat.{ℕ, _*_, _/_}
 use lib.Dec.{eqb}
 use Rattle.base.specs.Pick.{pick}
 use Rattle.rules.specs.declared.System.{System}
@@ -17,6 +17,10 @@ sequencesOf I60 = 10
 sequencesOf I50 = 12
 sequencesOf P60 = 10
 sequencesOf P50 = 12
+
+-- s = n/2, the sequences of an audio channel
+unfoldable pub halfOf : System → ℕ
+halfOf y = sequencesOf y / 2
 
 -- audio positions of an audio channel
 abbrev pub positionsOf : System → ℕ
@@ -77,6 +81,11 @@ isNoSystem NoSystem = true
 abbrev pub sequencesIn : SystemNumber → ℕ
 sequencesIn (Known y) = sequencesOf y
 sequencesIn NoSystem = 0
+
+-- what a known system passes; no system passes nothing
+abbrev pub passes : (System → Bool) → SystemNumber → Bool
+passes test (Known y) = test y
+passes test NoSystem = false
 
 -- frame length: 48,000·n
 abbrev pub frameBytes : SystemNumber → ℕ

@@ -76,3 +76,50 @@ pub struct Survey {
     pub total: u32,
     pub kept: u32,
 }
+
+// A pack: its header PC0 and four bytes.
+pub struct Pack {
+    pub pc0: u8,
+    pub pc1: u8,
+    pub pc2: u8,
+    pub pc3: u8,
+    pub pc4: u8,
+}
+
+// What the pack of an SSYB is, by its position.
+pub enum SubcodePack {
+    TimeCode,
+    BinaryGroup,
+    NoPack,
+}
+
+// A sample is a level, or it is lost.
+pub enum Sample {
+    Level(i16),
+    Lost,
+}
+
+// What a number of a lent slice says. A number outside -32,768 to 32,768 is no sample.
+pub enum SampleNumber {
+    Sampled(Sample),
+    NoSample,
+}
+
+// A picture slot: a video block of a sequence of a DIF channel.
+pub struct Slot {
+    pub channel: u32,
+    pub sequence: u32,
+    pub video: BlockNumber,
+}
+
+// What a slot carries: a macroblock by its number, or none.
+pub enum Carried {
+    Macroblock(u32),
+    Nothing,
+}
+
+// Where a macroblock lies. A number past the system's macroblocks lies in no slot.
+pub enum Carrier {
+    In(Slot),
+    NoSlot,
+}

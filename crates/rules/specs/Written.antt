@@ -1,0 +1,81 @@
+-- What a written frame holds, block by block in stream order, of what the writer was given.
+use mathlib.Core.List.{List, [], _∷_, _++_}
+use Prim.Native.Nat.{ℕ, _+_, _-_, _*_}
+use lib.Dec.{ltb}
+use lib.IntN.{ℤ, pos}
+use lib.ListN.{getD, replicate}
+use Rattle.base.specs.Pick.{pick}
+use Rattle.base.specs.Run.{run, tab}
+use Rattle.rules.specs.declared.System.{System}
+use Rattle.rules.specs.declared.Section.{Section}
+use Rattle.rules.specs.declared.Section.the-variants.{Header, Subcode, Vaux, Audio, Video}
+use Rattle.rules.specs.declared.Entry.{Entry}
+use Rattle.rules.specs.declared.Carried.{Carried}
+use Rattle.rules.specs.declared.Carried.the-variants.{Macroblock, Nothing}
+use Rattle.rules.specs.Systems.{sequencesOf, halfOf}
+use Rattle.rules.specs.Places.{place, entryAt}
+use Rattle.rules.specs.Ids.{idBytes, idAt}
+use Rattle.rules.specs.Packs.{packBytes}
+use Rattle.rules.specs.Header.{headerBytes}
+use Rattle.rules.specs.TimeCode.{timePack, groupPack}
+use Rattle.rules.specs.Subcode.{isFirst, subcodeBytes}
+use Rattle.rules.specs.Vaux.{vauxBytes}
+use Rattle.rules.specs.Aaux.{aauxPack}
+use Rattle.rules.specs.Samples.{wordFor, bytesOf}
+use Rattle.rules.specs.Sound.{audioAt, rowAt, sampleAt}
+use Rattle.rules.specs.Picture.{slot, carriedIn}
+
+-- what is lent to the writer beside the frame
+pub record Lent : Type 0 where
+  pub count : ℕ
+  pub sound : List ℤ
+  pub macroblocks : List ℕ
+  pub timeCode : List ℕ
+  pub binaryGroup : List ℕ
+
+-- ---- sound: "Positions from the count on are written 0"
+
+-- the word of position t of audio channel c; sound is lent channel after channel
+unfoldable pub storedWord : Lent → ℕ → ℕ → ℕ
+storedWord l c t = pick (ltb t (l .count)) (wordFor (getD (l .sound) ((c - 1) * l .count + t) (pos 0))) 0
+
+-- the two bytes of word w of audio block a
+unfoldable pub wordBytes : System → Lent → ℕ → ℕ → ℕ → ℕ → List ℕ
+wordBytes y l h q a w = bytesOf (storedWord l (audioAt (halfOf y) h q) (sampleAt (halfOf y) (rowAt (halfOf y) q) a w))
+
+unfoldable pub audioBytes : System → Lent → ℕ → ℕ → ℕ → List ℕ
+audioBytes y l h q a = packBytes (aauxPack y (l .count) (audioAt (halfOf y) h q) q a) ++ run (wordBytes y l h q a) 36
+
+-- ---- picture: 77 bytes a macroblock in number order; a slot that carries none has "payload FFh"
+
+unfoldable pub carriedBytes : List ℕ → Carried → List ℕ
+carriedBytes macroblocks (Macroblock b) = tab (λ (i : ℕ). getD macroblocks (77 * b + i) 0) 77
+carriedBytes macroblocks Nothing = replicate 77 0xFF
+
+unfoldable pub videoBytes : System → Lent → ℕ → ℕ → ℕ → List ℕ
+videoBytes y l h q v = carriedBytes (l .macroblocks) (carriedIn y (slot h q v))
+
+-- ---- the frame: a run of DIF channels, each of sequences, each of 150 blocks, each an ID and 77 bytes
+
+unfoldable pub payload : System → Lent → ℕ → ℕ → Section → ℕ → List ℕ
+payload y l h q Header k = headerBytes y
+payload y l h q Subcode k = subcodeBytes (isFirst y q) (timePack (l .timeCode)) (groupPack (l .binaryGroup)) k
+payload y l h q Vaux k = vauxBytes y q k
+payload y l h q Audio a = audioBytes y l h q a
+payload y l h q Video v = videoBytes y l h q v
+
+-- the block of entry e
+unfoldable pub entryBlock : System → Lent → ℕ → ℕ → Entry → List ℕ
+entryBlock y l h q e = idBytes (record { section = e .section; channel = h; dseq = q; dbn = e .number }) ++ payload y l h q (e .section) (e .number .0)
+
+unfoldable pub writtenBlock : System → Lent → ℕ → ℕ → ℕ → List ℕ
+writtenBlock y l h q p = entryBlock y l h q (entryAt (place p))
+
+unfoldable pub writtenSequence : System → Lent → ℕ → ℕ → List ℕ
+writtenSequence y l h q = run (writtenBlock y l h q) 150
+
+unfoldable pub writtenChannel : System → Lent → ℕ → List ℕ
+writtenChannel y l h = run (writtenSequence y l h) (sequencesOf y)
+
+unfoldable pub writtenFrame : System → Lent → List ℕ
+writtenFrame y l = run (writtenChannel y l) 4
