@@ -3,3 +3,4 @@ pub mod Picks
 pub mod Below
 pub mod Parts
 pub mod Runs
+pub mod Filling

@@ -1,6 +1,6 @@
 -- Laws of `pick` and of a refusal table. Assumes nothing.
 use mathlib.Core.Path.{_≡_, refl}
-use mathlib.Core.Bool.{Bool, true, false, _||_}
+use mathlib.Core.Bool.{Bool, true, false, _&&_, _||_}
 use mathlib.Core.List.{List, [], _∷_}
 use Prim.Native.Nat.{ℕ, suc}
 use native.Mathlib.Omega.{arith}
@@ -51,3 +51,12 @@ first-zero false k rs h = (refl, h)
 pub neither : (a b : Bool) → (a || b) ≡ false → (a ≡ false) × (b ≡ false)
 neither true b e = let z : _≡_ {A = ℕ} 0 1 = cc in absurd (omega arith)
 neither false b e = (refl, e)
+
+-- ---- both of two conditions
+
+pub both-held : (a b : Bool) → (a && b) ≡ true → (a ≡ true) × (b ≡ true)
+both-held true b e = (refl, e)
+both-held false b e = let z : _≡_ {A = ℕ} 0 1 = cc in absurd (omega arith)
+
+pub both-hold : {a b : Bool} → a ≡ true → b ≡ true → (a && b) ≡ true
+both-hold {a} {b} ea eb = rw (ea, eb) refl

@@ -1,4 +1,6 @@
-// What every crate above shares and no word of the format is in: definitions and laws of lists, and a byte made wide.
+// What every crate above shares and no word of the format is in: definitions and laws of lists, and the smallest leaves.
+ghost use mathlib.Core.Path.{_≡_};
+ghost use lib.ListN.{length, replicate};
 ghost use Rattle.base.specs.Bytes.{Byte};
 
 // A byte as a number of 32 bits.
@@ -6,4 +8,15 @@ pub fn wide(x: u8) -> u32
     ensures { λ r. ⌜ Byte x r ⌝ }
 {
     x as u32
+}
+
+// Every byte of the part is `value`.
+pub fn fill(part: &mut [u8], value: u8)
+    ensures { λ _. ⌜ now (part .exit) ≡ replicate (length (now (part .entry))) value ⌝ }
+{
+    let mut i = 0;
+    while i < part.len() {
+        part[i] = value;
+        i += 1;
+    }
 }

@@ -2,6 +2,8 @@ pub mod Systems
 pub mod Places
 pub mod Ids
 pub mod Blocks
+pub mod Samples
+pub mod Sound
 pub mod Faults
 pub mod Records
 pub mod Judging

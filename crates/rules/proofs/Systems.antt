@@ -9,7 +9,7 @@ use Rattle.rules.specs.declared.System.{System}
 use Rattle.rules.specs.declared.System.the-variants.{I60, I50, P60, P50}
 use Rattle.rules.specs.declared.SystemNumber.{SystemNumber}
 use Rattle.rules.specs.declared.SystemNumber.the-variants.{Known, NoSystem}
-use Rattle.rules.specs.Systems.{sequencesOf, positionsOf, countsOf, rateOf, systemOf, numberOf}
+use Rattle.rules.specs.Systems.{sequencesOf, halfOf, positionsOf, countsOf, rateOf, systemOf, numberOf}
 
 -- ---- systemOf
 
@@ -46,6 +46,22 @@ sequences-le I50 = omega arith
 sequences-le P60 = omega arith
 sequences-le P50 = omega arith
 
+-- ---- halfOf
+
+pub half-cases : (y : System) → (halfOf y ≡ 5) ⊎ (halfOf y ≡ 6)
+unfolding halfOf
+half-cases I60 = inl refl
+half-cases I50 = inr refl
+half-cases P60 = inl refl
+half-cases P50 = inr refl
+
+pub half-twice : (y : System) → sequencesOf y ≡ 2 * halfOf y
+unfolding halfOf
+half-twice I60 = refl
+half-twice I50 = refl
+half-twice P60 = refl
+half-twice P50 = refl
+
 -- ---- rateOf
 
 pub rate-sequences : (y : System) → sequencesOf y ≡ 10 + 2 * rateOf y
@@ -62,6 +78,13 @@ positions-sequences I60 = refl
 positions-sequences I50 = refl
 positions-sequences P60 = refl
 positions-sequences P50 = refl
+
+pub positions-half : (y : System) → positionsOf y ≡ 36 * (9 * halfOf y)
+unfolding halfOf
+positions-half I60 = refl
+positions-half I50 = refl
+positions-half P60 = refl
+positions-half P50 = refl
 
 -- a system's own counts are below its positions
 pub counts-below : (y : System) → (countsOf y .fewer < positionsOf y) × (countsOf y .more < positionsOf y)
