@@ -43,6 +43,15 @@ module _ {A : Type 0} where
       let j = h k (omega arith) in
       rw (i, j)
 
+  -- a run of nothing is nothing
+  pub run-none : (f : ℕ → List A) (k : ℕ) → ((j : ℕ) → j < k → f j ≡ []) → run f k ≡ []
+  unfolding run
+  run-none f zero h = refl
+  run-none f (suc k) h =
+      let i = run-none f k (λ j l. h j (omega arith)) in
+      let j = h k (omega arith) in
+      rw (i, j)
+
   -- a run in two goes
   pub run-split : (f : ℕ → List A) (a m : ℕ) → run f (a + m) ≡ run f a ++ run (λ (i : ℕ). f (a + i)) m
   unfolding run

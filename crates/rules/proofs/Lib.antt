@@ -7,5 +7,7 @@ pub mod Sound
 pub mod Faults
 pub mod Records
 pub mod Judging
+pub mod Written
 pub mod Calls
+pub mod Write
 pub mod Known

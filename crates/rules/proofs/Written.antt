@@ -1,0 +1,247 @@
+-- Laws of a written frame: its length, its blocks, that each names its place, and what stands in them. Assumes nothing.
+use mathlib.Core.Path.{_≡_, refl, sym, ap, ap₂, _∙_, subst}
+use mathlib.Core.Bool.{Bool, true, false}
+use mathlib.Core.List.{List, [], _∷_, _++_}
+use Prim.Native.Nat.{ℕ, _+_, _-_, _*_, _/_, _%_, _≤_, _<_}
+use native.Mathlib.Nat.{mul-comm, mul-assoc}
+use native.Mathlib.Omega.{arith}
+use borrow.Author.Tests.{eq-eqb, lt-ltb, le-ltb}
+use lib.Dec.{eqb, ltb}
+use lib.IntN.{ℤ, pos}
+use lib.ListN.{length, take, drop, getD, replicate, length-append}
+use lib.Seq.{getD-append-add, take-at, drop-at}
+use Rattle.base.specs.Pick.{pick}
+use Rattle.base.specs.Run.{run, Wide, tab}
+use Rattle.base.proofs.Cases.{by-lt}
+use Rattle.base.proofs.Picks.{pick-true, pick-false}
+use Rattle.base.proofs.Runs.{end-within, run-none, length-run, run-at, run-part, run-element, length-tab, tab-part}
+use Rattle.rules.specs.declared.System.{System}
+use Rattle.rules.specs.declared.Section.{Section}
+use Rattle.rules.specs.declared.Section.the-variants.{Header, Subcode, Vaux, Audio, Video}
+use Rattle.rules.specs.declared.Entry.{Entry}
+use Rattle.rules.specs.declared.BlockId.{BlockId}
+use Rattle.rules.specs.declared.Pack.{Pack}
+use Rattle.rules.specs.declared.Carried.{Carried}
+use Rattle.rules.specs.declared.Carried.the-variants.{Macroblock, Nothing}
+use Rattle.rules.specs.Systems.{sequencesOf, halfOf, positionsOf, macroblocksOf}
+use Rattle.rules.specs.Places.{place, block, entryAt, placeIn, blocksOf}
+use Rattle.rules.specs.Ids.{idBytes, idAt}
+use Rattle.rules.specs.Blocks.{startOf, blockAt}
+use Rattle.rules.specs.Packs.{packIn, packBytes}
+use Rattle.rules.specs.Header.{headerBytes}
+use Rattle.rules.specs.TimeCode.{timePack, groupPack}
+use Rattle.rules.specs.Subcode.{isFirst, ssyb, subcodeBytes}
+use Rattle.rules.specs.Vaux.{vauxPack, vauxBytes}
+use Rattle.rules.specs.Aaux.{aauxPack}
+use Rattle.rules.specs.Samples.{numberOf, sampleOf, allInRange, wordFor, bytesOf, wordAt, backOf}
+use Rattle.rules.specs.Sound as sound
+use Rattle.rules.specs.Sound.{difOf, halfAt, rowOf, audioOf, wordNumber, byteOf, audioAt, rowAt, sampleAt}
+use Rattle.rules.specs.Picture.{slot, carriedIn}
+use Rattle.rules.specs.Faults.{faultAt, blockFaults, sequenceFaults, channelFaults, frameFaults}
+use Rattle.rules.specs.Written.{Lent, storedWord, wordBytes, audioBytes, carriedBytes, videoBytes, payload, entryBlock, writtenBlock, writtenSequence, writtenChannel, writtenFrame}
+use Rattle.rules.proofs.Systems.{half-cases, half-twice, positions-half, sequences-le}
+use Rattle.rules.proofs.Places.{place-in-below, entry-place-in}
+use Rattle.rules.proofs.Blocks.{block-in-sequence}
+use Rattle.rules.proofs.Faults.{written-names}
+use Rattle.rules.proofs.Samples.{bytes-word, number-again, silence, all-in}
+use Rattle.rules.proofs.Sound.{Half, sample-back, row-below, audio-below, word-below, row-sequence, audio-sequence, sequence-below}
+
+-- ---- how long each thing is
+
+word-wide : (y : System) (l : Lent) (h q a : ℕ) → Wide 2 (wordBytes y l h q a)
+unfolding wordBytes
+word-wide y l h q a w = refl
+
+subcode-bytes-length : (first : Bool) (time group : Pack) (k : ℕ) → length (subcodeBytes first time group k) ≡ 77
+unfolding subcodeBytes ssyb
+subcode-bytes-length first time group k =
+    let f : ℕ → List ℕ = λ j. ssyb first time group (6 * k + j) in
+    let n : length (run f 6) ≡ 6 * 8 = length-run 8 f (λ j. refl) 6 in
+    length-append (run f 6) (replicate 29 0xFF) ∙ omega arith
+
+vaux-bytes-length : (y : System) (q k : ℕ) → length (vauxBytes y q k) ≡ 77
+unfolding vauxBytes
+vaux-bytes-length y q k =
+    let f : ℕ → List ℕ = λ j. packBytes (vauxPack y q (15 * k + j)) in
+    let n : length (run f 15) ≡ 15 * 5 = length-run 5 f (λ j. refl) 15 in
+    length-append (run f 15) (0xFF ∷ 0xFF ∷ []) ∙ omega arith
+
+carried-length : (ms : List ℕ) (c : Carried) → length (carriedBytes ms c) ≡ 77
+unfolding carriedBytes
+carried-length ms (Macroblock b) = length-tab _ 77
+carried-length ms Nothing = refl
+
+pub payload-length : (y : System) (l : Lent) (h q : ℕ) (s : Section) (k : ℕ) → length (payload y l h q s k) ≡ 77
+unfolding payload headerBytes audioBytes videoBytes
+payload-length y l h q Header k = refl
+payload-length y l h q Subcode k = subcode-bytes-length (isFirst y q) (timePack (l .timeCode)) (groupPack (l .binaryGroup)) k
+payload-length y l h q Vaux k = vaux-bytes-length y q k
+payload-length y l h q Audio k = omega (arith, length-run 2 (wordBytes y l h q k) (word-wide y l h q k) 36)
+payload-length y l h q Video k = carried-length (l .macroblocks) (carriedIn y (slot h q k))
+
+pub entry-block-length : (y : System) (l : Lent) (h q : ℕ) (e : Entry) → length (entryBlock y l h q e) ≡ 80
+unfolding entryBlock idBytes
+entry-block-length y l h q e = omega (arith, payload-length y l h q (e .section) (e .number .0))
+
+pub block-wide : (y : System) (l : Lent) (h q : ℕ) → Wide 80 (writtenBlock y l h q)
+unfolding writtenBlock
+block-wide y l h q p = entry-block-length y l h q (entryAt (place p))
+
+pub sequence-wide : (y : System) (l : Lent) (h : ℕ) → Wide 12000 (writtenSequence y l h)
+unfolding writtenSequence
+sequence-wide y l h q = length-run 80 (writtenBlock y l h q) (block-wide y l h q) 150
+
+pub channel-wide : (y : System) (l : Lent) → Wide (sequencesOf y * 12000) (writtenChannel y l)
+unfolding writtenChannel
+channel-wide y l h = length-run 12000 (writtenSequence y l h) (sequence-wide y l h) (sequencesOf y)
+
+pub frame-length : (y : System) (l : Lent) → length (writtenFrame y l) ≡ 48000 * sequencesOf y
+unfolding writtenFrame
+frame-length y l = length-run (sequencesOf y * 12000) (writtenChannel y l) (channel-wide y l) 4 ∙ omega arith
+
+-- ---- blockAt: the block at a place is the one that was written there, and names its place
+
+start-parts : (y : System) (h q p : ℕ) → startOf y h q p ≡ h * (sequencesOf y * 12000) + (q * 12000 + p * 80)
+start-parts y h q p = omega (arith, mul-comm (sequencesOf y) h, mul-assoc h (sequencesOf y) 12000)
+
+module _ (y : System) (l : Lent) (h q p : ℕ) (hh : h < 4) (hq : q < sequencesOf y) (hp : p < 150) where
+  pub frame-block : blockAt y (writtenFrame y l) h q p ≡ writtenBlock y l h q p
+  unfolding writtenFrame writtenChannel writtenSequence blockAt
+  frame-block =
+      let n : ℕ = sequencesOf y in
+      ap (λ (i : ℕ). take 80 (drop i (writtenFrame y l))) (start-parts y h q p)
+      ∙ run-part (n * 12000) (writtenChannel y l) (channel-wide y l) h 4 (q * 12000 + p * 80) 80 hh (omega (arith, end-within 12000 q n hq))
+      ∙ run-part 12000 (writtenSequence y l h) (sequence-wide y l h) q n (p * 80) 80 hq (omega arith)
+      ∙ run-at 80 (writtenBlock y l h q) (block-wide y l h q) p 150 hp
+
+  pub frame-names : faultAt (blockAt y (writtenFrame y l) h q p) h q p ≡ 0
+  unfolding writtenBlock entryBlock idAt
+  frame-names =
+      ap (λ (b : List ℕ). faultAt b h q p) frame-block
+      ∙ written-names (payload y l h q (entryAt (place p) .section) (entryAt (place p) .number .0)) h q p hh (omega (arith, sequences-le y)) hp
+
+-- so a written frame has no fault
+pub frame-faultless : (y : System) (l : Lent) → frameFaults y (writtenFrame y l) ≡ []
+unfolding frameFaults channelFaults sequenceFaults blockFaults
+frame-faultless y l =
+    run-none _ 4 (λ h hh.
+    run-none _ (sequencesOf y) (λ q hq.
+    run-none _ 150 (λ p hp.
+    pick-true _ _
+    (eq-eqb _ 0
+    (ap (λ (b : List ℕ). faultAt b h q p) (block-in-sequence y (writtenFrame y l) h q p hp) ∙ frame-names y l h q p hh hq hp)))))
+
+-- ---- payload: the block of a section is its ID and its 77 bytes
+
+abbrev pub named : ℕ → ℕ → Section → ℕ → BlockId
+named h q s k = record { section = s; channel = h; dseq = q; dbn = record { 0 = k } }
+
+module _ (y : System) (l : Lent) (h q : ℕ) (s : Section) (k : ℕ) (hh : h < 4) (hq : q < sequencesOf y) (hk : k < blocksOf s) where
+  pub frame-entry : blockAt y (writtenFrame y l) h q (placeIn s k) ≡ idBytes (named h q s k) ++ payload y l h q s k
+  unfolding writtenBlock entryBlock
+  frame-entry =
+      frame-block y l h q (placeIn s k) hh hq (place-in-below s k hk)
+      ∙ ap (entryBlock y l h q) (entry-place-in s k hk)
+
+  pub frame-payload : drop 3 (blockAt y (writtenFrame y l) h q (placeIn s k)) ≡ payload y l h q s k
+  unfolding idBytes
+  frame-payload = ap (drop 3) frame-entry
+
+-- ---- storedWord: the word at the place of sample t is that sample's
+
+-- byte i of word w of an audio block
+audio-byte : (y : System) (l : Lent) (h q a w i : ℕ) → w < 36 → i < 2
+    → getD (idBytes (named h q Audio a) ++ payload y l h q Audio a) (8 + (w * 2 + i)) 0 ≡ getD (wordBytes y l h q a w) i 0
+unfolding idBytes payload audioBytes
+audio-byte y l h q a w i hw hi =
+    let pack : List ℕ = packBytes (aauxPack y (l .count) (audioAt (halfOf y) h q) q a) in
+    let words : List ℕ = run (wordBytes y l h q a) 36 in
+    let id : List ℕ = idBytes (named h q Audio a) in
+    let e : 8 + (w * 2 + i) ≡ length id + (length pack + (w * 2 + i)) = omega arith in
+    ap (λ (j : ℕ). getD (id ++ (pack ++ words)) j 0) e
+    ∙ getD-append-add id (pack ++ words) (length pack + (w * 2 + i)) 0
+    ∙ getD-append-add pack words (w * 2 + i) 0
+    ∙ run-element 0 2 (wordBytes y l h q a) (word-wide y l h q a) w 36 i hw hi
+
+module _ (y : System) (l : Lent) (c t : ℕ) (c1 : 0 < c) (c8 : c < 9) (ht : t < positionsOf y) where
+  s : ℕ
+  s = halfOf y
+
+  half : Half (halfOf y)
+  half = half-cases y
+
+  abbrev q : ℕ
+  q = sound.sequenceOf (halfOf y) c t
+
+  t-below : t < 36 * (9 * halfOf y)
+  t-below = omega (arith, positions-half y)
+
+  dif-below : difOf c < 4
+  dif-below = omega arith
+
+  sequence-in : q < sequencesOf y
+  sequence-in = omega (arith, half-twice y, sequence-below (halfOf y) c (rowOf (halfOf y) t) half (row-below (halfOf y) half t))
+
+  -- its block
+  abbrev pub soundBlock : List ℕ
+  soundBlock = blockAt y (writtenFrame y l) (difOf c) q (sound.placeOf (halfOf y) t)
+
+  block-is : soundBlock ≡ idBytes (named (difOf c) q Audio (audioOf (halfOf y) t)) ++ payload y l (difOf c) q Audio (audioOf (halfOf y) t)
+  block-is = frame-entry y l (difOf c) q Audio (audioOf (halfOf y) t) dif-below sequence-in (audio-below (halfOf y) half t)
+
+  pub sound-names : faultAt soundBlock (difOf c) q (sound.placeOf (halfOf y) t) ≡ 0
+  sound-names =
+      frame-names y l (difOf c) q (sound.placeOf (halfOf y) t) dif-below sequence-in
+      (place-in-below Audio (audioOf (halfOf y) t) (audio-below (halfOf y) half t))
+
+  bytes-are : wordBytes y l (difOf c) q (audioOf (halfOf y) t) (wordNumber (halfOf y) t) ≡ bytesOf (storedWord l c t)
+  unfolding wordBytes
+  bytes-are =
+      ap₂ (λ (x z : ℕ). bytesOf (storedWord l x z)) (audio-sequence (halfOf y) c (rowOf (halfOf y) t) half (row-below (halfOf y) half t) c1)
+      (ap (λ (r : ℕ). sampleAt (halfOf y) r (audioOf (halfOf y) t) (wordNumber (halfOf y) t)) (row-sequence (halfOf y) c (rowOf (halfOf y) t) half (row-below (halfOf y) half t))
+      ∙ sample-back (halfOf y) half t)
+
+  byte-is : (i : ℕ) → i < 2 → getD soundBlock (8 + (wordNumber (halfOf y) t * 2 + i)) 0 ≡ getD (bytesOf (storedWord l c t)) i 0
+  byte-is i hi =
+      ap (λ (b : List ℕ). getD b (8 + (wordNumber (halfOf y) t * 2 + i)) 0) block-is
+      ∙ audio-byte y l (difOf c) q (audioOf (halfOf y) t) (wordNumber (halfOf y) t) i (word-below (halfOf y) half t t-below) hi
+      ∙ ap (λ (b : List ℕ). getD b i 0) bytes-are
+
+  pub frame-word : wordAt soundBlock (byteOf (halfOf y) t) ≡ storedWord l c t
+  frame-word =
+      let e : byteOf (halfOf y) t ≡ 8 + (wordNumber (halfOf y) t * 2 + 0) = omega arith in
+      let f : byteOf (halfOf y) t + 1 ≡ 8 + (wordNumber (halfOf y) t * 2 + 1) = omega arith in
+      ap₂ (λ (x z : ℕ). x * 256 + z)
+      (ap (λ (i : ℕ). getD soundBlock i 0) e ∙ byte-is 0 (omega arith))
+      (ap (λ (i : ℕ). getD soundBlock i 0) f ∙ byte-is 1 (omega arith))
+      ∙ bytes-word (storedWord l c t)
+
+-- what a word says that was stored: the number that was given, or silence from the count on
+pub stored-given : (l : Lent) (c t : ℕ) → 0 < c → c < 9 → length (l .sound) ≡ 8 * l .count → allInRange (l .sound) ≡ true → t < l .count
+    → numberOf (sampleOf (storedWord l c t)) ≡ backOf (getD (l .sound) ((c - 1) * l .count + t) (pos 0))
+unfolding storedWord
+stored-given l c t c1 c8 len all ht =
+    let c7 : c - 1 < 8 = omega arith in
+    let b : (c - 1) * l .count + t < length (l .sound) = omega (arith, end-within (l .count) (c - 1) 8 c7) in
+    ap (λ (w : ℕ). numberOf (sampleOf w)) (pick-true _ _ (lt-ltb t (l .count) ht))
+    ∙ number-again (getD (l .sound) ((c - 1) * l .count + t) (pos 0)) (all-in (l .sound) ((c - 1) * l .count + t) all b)
+
+pub stored-tail : (l : Lent) (c t : ℕ) → l .count ≤ t → storedWord l c t ≡ 0
+unfolding storedWord
+stored-tail l c t ht = pick-false _ _ (le-ltb t (l .count) ht)
+
+-- ---- carriedBytes: a slot holds its macroblock's 77 bytes, or FFh
+
+module _ (y : System) (l : Lent) (h q v : ℕ) (hh : h < 4) (hq : q < sequencesOf y) (hv : v < 135) where
+  abbrev pub pictureBytes : List ℕ
+  pictureBytes = drop 3 (blockAt y (writtenFrame y l) h q (placeIn Video v))
+
+  pub frame-macroblock : (b : ℕ) → carriedIn y (slot h q v) ≡ Macroblock b → 77 * b + 77 ≤ length (l .macroblocks)
+      → pictureBytes ≡ take 77 (drop (77 * b) (l .macroblocks))
+  unfolding payload videoBytes carriedBytes
+  frame-macroblock b e room =
+      frame-payload y l h q Video v hh hq hv ∙ ap (carriedBytes (l .macroblocks)) e ∙ tab-part 0 (l .macroblocks) (77 * b) 77 room
+
+  pub frame-empty : carriedIn y (slot h q v) ≡ Nothing → pictureBytes ≡ replicate 77 0xFF
+  unfolding payload videoBytes carriedBytes
+  frame-empty e = frame-payload y l h q Video v hh hq hv ∙ ap (carriedBytes (l .macroblocks)) e
