@@ -13,6 +13,7 @@ pub use places::printed_places;
 pub use places::section_code;
 pub use systems::counts;
 pub use systems::frame_bytes;
+pub use systems::half;
 pub use systems::is_count;
 pub use systems::macroblocks;
 pub use systems::positions;

@@ -1,7 +1,7 @@
 // The four systems: each brings its own numbers.
 ghost use mathlib.Core.Path.{_≡_};
 ghost use Prim.Native.Nat.{_*_};
-ghost use Rattle.rules.specs.Systems.{sequencesOf, positionsOf, countsOf, isCount, macroblocksOf, rateOf, stypeOf, systemOf};
+ghost use Rattle.rules.specs.Systems.{sequencesOf, halfOf, positionsOf, countsOf, isCount, macroblocksOf, rateOf, stypeOf, systemOf};
 use rules::Counts;
 use rules::System;
 use rules::SystemNumber;
@@ -29,6 +29,13 @@ pub fn sequences(y: System) -> u32
         System::P60 => 10,
         System::P50 => 12,
     }
+}
+
+// The sequences of an audio channel, s = n/2.
+pub fn half(y: System) -> u32
+    ensures { λ r. ⌜ r ≡ halfOf y ⌝ }
+{
+    sequences(y) / 2
 }
 
 // The audio positions of an audio channel.

@@ -18,6 +18,9 @@ Half s = (s ≡ 5) ⊎ (s ≡ 6)
 pub half-some : (s : ℕ) → Half s → 0 < s
 half-some s = ⊎-elim (λ e. omega arith) (λ e. omega arith)
 
+pub half-ge : (s : ℕ) → Half s → 5 ≤ s
+half-ge s = ⊎-elim (λ e. omega arith) (λ e. omega arith)
+
 pub half-le : (s : ℕ) → Half s → s ≤ 6
 half-le s = ⊎-elim (λ e. omega arith) (λ e. omega arith)
 

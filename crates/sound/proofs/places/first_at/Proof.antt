@@ -1,0 +1,34 @@
+-- `sound::places::first_at` meets its contract: by the row of the sequence in its half. Assumes nothing.
+use mathlib.Core.Path.{_≡_, refl, sym, subst}
+use Prim.Native.Nat.{ℕ, _<_, _%_}
+use native.Mathlib.Nat.{mod-lt}
+use native.Mathlib.Omega.{arith}
+use borrow.Author.Needs.{needs}
+use Rattle.rules.specs.declared.System.{System}
+use Rattle.rules.specs.Systems.{halfOf}
+use Rattle.rules.proofs.Systems.{half-cases}
+use Rattle.rules.proofs.Sound.{Half, half-some}
+use Rattle.sound.specs.Asked.{First}
+use Rattle.sound.proofs.places.first_at.Statement.{statement}
+use Rattle.sound.proofs.places.first_at.Tie as tie
+
+half-of : (y : System) (s : ℕ) → s ≡ halfOf y → Half s
+half-of y s e = subst Half (sym e) (half-cases y)
+
+asked : (y : System) (s q a : ℕ) → s ≡ halfOf y → First s (q % s) (a % 9)
+asked y s q a e = record { half = half-of y s e; row = mod-lt q (half-some s (half-of y s e)); audio = omega arith }
+
+half-requires : tie.Need-half-requires
+half-requires c κs = search needs
+
+rem-first-of : tie.Need-rem-first-of
+rem-first-of c = half-some _ (half-of _ _ (c .half .ensures))
+
+first-of-requires : tie.Need-first-of-requires
+first-of-requires c κs = asked _ _ _ _ (c .half .ensures)
+
+returns : tie.Need-returns
+returns c = rw (← c .before .half .ensures) (c .first-of .ensures)
+
+pub first-at-spec : {M : Type 1} → statement M
+first-at-spec = tie.close (tie.spec half-requires rem-first-of first-of-requires returns)

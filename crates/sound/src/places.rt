@@ -1,0 +1,23 @@
+// Which sample stands where.
+ghost use mathlib.Core.Path.{_≡_};
+ghost use Prim.Native.Nat.{_*_, _%_, _<_};
+ghost use Rattle.rules.specs.Systems.{halfOf};
+ghost use Rattle.rules.specs.Sound.{rowAt, firstAt};
+ghost use Rattle.sound.specs.Asked.{First};
+use rules::System;
+
+// The first sample of audio block a of row r.
+fn first_of(s: u32, r: u32, a: u32) -> u32
+    requires { ⌜ First s r a ⌝ }
+    ensures { λ t. ⌜ t ≡ firstAt s r a ⌝ }
+{
+    3 * s * (a % 3) + 3 * ((r + 2 * s - 2 * (a / 3)) % s) + a / 3
+}
+
+// The first sample of an audio block of sequence q; its others follow 9s apart.
+pub fn first_at(y: System, q: u32, audio: u32) -> u32
+    ensures { λ t. ⌜ t ≡ firstAt (halfOf y) (rowAt (halfOf y) q) (audio % 9) ⌝ }
+{
+    let s = layout::half(y);
+    first_of(s, q % s, audio % 9)
+}
