@@ -2,8 +2,11 @@ pub mod Systems
 pub mod Places
 pub mod Ids
 pub mod Blocks
+pub mod Packs
+pub mod AuxPacks
 pub mod Samples
 pub mod Sound
+pub mod Picture
 pub mod Faults
 pub mod Records
 pub mod Judging

@@ -22,4 +22,5 @@ pub mod Survey
 pub mod View
 pub mod Written
 pub mod Write
+pub mod Rows
 pub mod Known

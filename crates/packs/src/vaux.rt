@@ -1,0 +1,49 @@
+// The packs of VAUX.
+ghost use mathlib.Core.Path.{_≡_};
+ghost use Rattle.rules.specs.Vaux.{vsAt, vauxPack, vsOk};
+use rules::Pack;
+use rules::System;
+
+// VS is pack 39 in even sequences, 0 in odd.
+fn vs_at(q: u32) -> u32
+    ensures { λ r. ⌜ r ≡ vsAt q ⌝ }
+{
+    if q % 2 == 0 { 39 } else { 0 }
+}
+
+// Pack k of the 45 of sequence q: VS, VSC behind it, or none.
+pub fn vaux_pack(y: System, q: u32, k: u32) -> Pack
+    ensures { λ r. ⌜ r ≡ vauxPack y q k ⌝ }
+{
+    let vs = vs_at(q);
+    if k == vs {
+        let rate = layout::rate(y);
+        let stype = layout::stype(y);
+        let pc3 = 0xC0 + rate * 0x20 + stype;
+        return Pack {
+            pc0: 0x60,
+            pc1: 0xFF,
+            pc2: 0xFF,
+            pc3: pc3 as u8,
+            pc4: 0xFF,
+        };
+    }
+    let header = if k == vs + 1 { 0x61 } else { 0xFF };
+    Pack {
+        pc0: header,
+        pc1: 0xFF,
+        pc2: 0xFF,
+        pc3: 0xFF,
+        pc4: 0xFF,
+    }
+}
+
+// A VS agrees in 60h, rate and STYPE (22).
+pub fn vs_ok(y: System, p: Pack) -> bool
+    ensures { λ r. ⌜ r ≡ vsOk y p ⌝ }
+{
+    let pc3 = base::wide(p.pc3);
+    let rate = layout::rate(y);
+    let stype = layout::stype(y);
+    (p.pc0 == 0x60) & ((pc3 / 32 % 2 == rate) & (pc3 % 32 == stype))
+}

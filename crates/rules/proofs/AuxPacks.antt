@@ -1,0 +1,297 @@
+-- Laws of the packs of VAUX and AAUX. Assumes nothing.
+use mathlib.Core.Path.{_≡_, refl, sym, ap, _∙_, subst}
+use mathlib.Core.Logic.{_⊎_, inl, inr, ⊎-elim}
+use mathlib.Core.Bool.{Bool, true, false, _&&_, _||_}
+use mathlib.Core.List.{List, [], _∷_, _++_}
+use Prim.Native.Nat.{ℕ, _+_, _-_, _*_, _/_, _%_, _<_}
+use native.Mathlib.Omega.{arith}
+use lib.Dec.{eqb, ltb}
+use lib.ListN.{length, length-append}
+use borrow.Author.Tests.{eq-eqb, ne-eqb, eqb-true, lt-ltb, ltb-true}
+use Rattle.base.specs.Pick.{pick}
+use Rattle.base.specs.Run.{run, tab, Wide}
+use Rattle.base.proofs.Cases.{by-eq, by-bool}
+use Rattle.base.proofs.Picks.{pick-true, pick-false, pick-either}
+use Rattle.base.proofs.Runs.{length-run}
+use Rattle.rules.specs.declared.System.{System}
+use Rattle.rules.specs.declared.System.the-variants.{I60, I50, P60, P50}
+use Rattle.rules.specs.declared.SystemNumber.{SystemNumber}
+use Rattle.rules.specs.declared.SystemNumber.the-variants.{Known}
+use Rattle.rules.specs.declared.Pack.{Pack}
+use Rattle.rules.specs.Systems.{rateOf, stypeOf, isCount, systemOf}
+use Rattle.rules.specs.Packs.{packBytes, noPack}
+use Rattle.rules.specs.Vaux.{vsAt, vsPack, vscPack, vauxPack, vauxBytes, vsOk, Vs, vauxIn}
+use Rattle.rules.specs.Aaux.{asAt, sizeOf, countOf, modeOf, asPack, ascPack, aauxPack, countIn, asOk, As}
+use Rattle.rules.proofs.Packs.{both, part-pack}
+
+-- ---- rateOf, stypeOf
+
+pub rate-below : (y : System) → rateOf y < 2
+rate-below I60 = omega arith
+rate-below I50 = omega arith
+rate-below P60 = omega arith
+rate-below P50 = omega arith
+
+pub stype-below : (y : System) → stypeOf y < 32
+stype-below I60 = omega arith
+stype-below I50 = omega arith
+stype-below P60 = omega arith
+stype-below P50 = omega arith
+
+-- ---- vsPack, vsOk
+
+-- "PC3 bit 5 is 1 for 50 Hz, bits 4-0 are 14h (1080) or 18h (720)."
+pub vs-rate : (y : System) → vsPack y .pc3 / 32 % 2 ≡ rateOf y
+vs-rate I60 = refl
+vs-rate I50 = refl
+vs-rate P60 = refl
+vs-rate P50 = refl
+
+pub vs-1080 : (vsPack I60 .pc3 % 32 ≡ 0x14) × (vsPack I50 .pc3 % 32 ≡ 0x14)
+vs-1080 = (refl, refl)
+
+pub vs-720 : (vsPack P60 .pc3 % 32 ≡ 0x18) × (vsPack P50 .pc3 % 32 ≡ 0x18)
+vs-720 = (refl, refl)
+
+pub vs-means : (y : System) (p : Pack) → vsOk y p ≡ true → Vs y p
+vs-means y p e =
+    let rate = eqb (p .pc3 / 32 % 2) (rateOf y) in
+    let stype = eqb (p .pc3 % 32) (stypeOf y) in
+    let all = both (eqb (p .pc0) 0x60) (rate && stype) e in
+    let two = both rate stype (all .1) in
+    record {
+      header = eqb-true (p .pc0) 0x60 (all .0);
+      rate = eqb-true (p .pc3 / 32 % 2) (rateOf y) (two .0);
+      stype = eqb-true (p .pc3 % 32) (stypeOf y) (two .1);
+    }
+
+pub vs-when : (y : System) (p : Pack) → Vs y p → vsOk y p ≡ true
+vs-when y p h = rw (eq-eqb (p .pc0) 0x60 (h .header), eq-eqb (p .pc3 / 32 % 2) (rateOf y) (h .rate)) (eq-eqb (p .pc3 % 32) (stypeOf y) (h .stype))
+
+pub vs-written : (y : System) → vsOk y (vsPack y) ≡ true
+vs-written I60 = refl
+vs-written I50 = refl
+vs-written P60 = refl
+vs-written P50 = refl
+
+-- rate and STYPE tell the four systems apart
+told : (y : System) → systemOf (rateOf y + (stypeOf y - 0x14) / 2) ≡ Known y
+unfolding systemOf pick
+told I60 = refl
+told I50 = refl
+told P60 = refl
+told P50 = refl
+
+pub vs-tells : (y z : System) → vsOk y (vsPack z) ≡ true → y ≡ z
+vs-tells y z e =
+    let mine = vs-means y (vsPack z) e in
+    let its = vs-means z (vsPack z) (vs-written z) in
+    let rate : rateOf y ≡ rateOf z = sym (mine .rate) ∙ its .rate in
+    let stype : stypeOf y ≡ stypeOf z = sym (mine .stype) ∙ its .stype in
+    let known : Known y ≡ Known z = sym (told y) ∙ rw (rate, stype) (told z) in
+    cc
+
+-- ---- vsAt, vauxPack
+
+-- "VS is pack 39 in even sequences, 0 in odd; VSC follows it."
+module _ (y : System) (q : ℕ) where
+  pub vs-even : q % 2 ≡ 0 → vauxPack y q 39 ≡ vsPack y
+  unfolding vauxPack vsAt pick
+  vs-even h = rw h refl
+
+  pub vs-odd : q % 2 ≡ 1 → vauxPack y q 0 ≡ vsPack y
+  unfolding vauxPack vsAt pick
+  vs-odd h = rw h refl
+
+  pub vsc-even : q % 2 ≡ 0 → packBytes (vauxPack y q 40) ≡ 0x61 ∷ 0xFF ∷ 0xFF ∷ 0xFF ∷ 0xFF ∷ []
+  unfolding vauxPack vsAt pick
+  vsc-even h = rw h refl
+
+  pub vsc-odd : q % 2 ≡ 1 → packBytes (vauxPack y q 1) ≡ 0x61 ∷ 0xFF ∷ 0xFF ∷ 0xFF ∷ 0xFF ∷ []
+  unfolding vauxPack vsAt pick
+  vsc-odd h = rw h refl
+
+  -- where the other sequences have VS, there is no pack
+  pub vs-odd-39 : q % 2 ≡ 1 → vauxPack y q 39 ≡ noPack
+  unfolding vauxPack vsAt pick
+  vs-odd-39 h = rw h refl
+
+  pub vs-even-0 : q % 2 ≡ 0 → vauxPack y q 0 ≡ noPack
+  unfolding vauxPack vsAt pick
+  vs-even-0 h = rw h refl
+
+  pub vaux-vs : vauxPack y q (vsAt q) ≡ vsPack y
+  unfolding vauxPack
+  vaux-vs = pick-true _ _ (eq-eqb (vsAt q) (vsAt q) refl)
+
+  pub vaux-vsc : vauxPack y q (vsAt q + 1) ≡ vscPack
+  unfolding vauxPack
+  vaux-vsc = pick-false _ _ (ne-eqb (vsAt q + 1) (vsAt q) (λ e. omega arith)) ∙ pick-true _ _ (eq-eqb (vsAt q + 1) (vsAt q + 1) refl)
+
+  pub vaux-none : (k : ℕ) → (k ≡ vsAt q → ⊥) → (k ≡ vsAt q + 1 → ⊥) → vauxPack y q k ≡ noPack
+  unfolding vauxPack
+  vaux-none k d e = pick-false _ _ (ne-eqb k (vsAt q) d) ∙ pick-false _ _ (ne-eqb k (vsAt q + 1) e)
+
+pub vs-below : (q : ℕ) → vsAt q + 1 < 45
+unfolding vsAt
+vs-below q = pick-either (λ (k : ℕ). k + 1 < 45) _ (omega arith) (omega arith)
+
+-- ---- vauxBytes
+
+module _ (y : System) (q k : ℕ) where
+  abbrev fifteen : ℕ → List ℕ
+  fifteen j = packBytes (vauxPack y q (15 * k + j))
+
+  fifteen-wide : Wide 5 fifteen
+  fifteen-wide j = refl
+
+  pub vaux-length : length (vauxBytes y q k) ≡ 77
+  unfolding vauxBytes
+  vaux-length = length-append (run fifteen 15) (0xFF ∷ 0xFF ∷ []) ∙ rw (length-run 5 fifteen fifteen-wide 15) refl
+
+  -- "45 packs, 15 to a block, five bytes each from byte 3"
+  pub vaux-pack : (id : List ℕ) (j : ℕ) → length id ≡ 3 → j < 15 → vauxIn (id ++ vauxBytes y q k) (15 * k + j) ≡ vauxPack y q (15 * k + j)
+  unfolding vauxBytes
+  vaux-pack id j three h = part-pack id (0xFF ∷ 0xFF ∷ []) 5 fifteen fifteen-wide 15 j three h 0 _ (omega arith) at
+    where
+      at : 3 + 5 * ((15 * k + j) % 15) ≡ 3 + (j * 5 + 0)
+      at = omega arith
+
+-- ---- sizeOf, countOf, modeOf
+
+-- "AF size .. (20, 22, 24 for 1,600, 1,602, 1,920 ..)"
+pub size-count : (sizeOf 1600 ≡ 20) × (sizeOf 1602 ≡ 22) × (sizeOf 1920 ≡ 24)
+unfolding sizeOf pick
+size-count = (refl, refl, refl)
+
+pub count-size : (countOf 20 ≡ 1600) × (countOf 22 ≡ 1602) × (countOf 24 ≡ 1920)
+unfolding countOf pick
+count-size = (refl, refl, refl)
+
+-- any other size is no count's
+pub count-none : (size : ℕ) → (size ≡ 20 → ⊥) → (size ≡ 22 → ⊥) → (size ≡ 24 → ⊥) → countOf size ≡ 0
+unfolding countOf pick
+count-none size d e f = rw (ne-eqb size 20 d, ne-eqb size 22 e, ne-eqb size 24 f) refl
+
+pub size-below : (count : ℕ) → sizeOf count < 64
+unfolding sizeOf
+size-below count = pick-either (λ (k : ℕ). k < 64) _ (omega arith) (pick-either (λ (k : ℕ). k < 64) _ (omega arith) (omega arith))
+
+-- "mode .. (0 for channels 1, 3, 5, 7; 1 for 2, 4, 6, 8 ..)"
+pub as-mode : tab (λ (k : ℕ). modeOf (k + 1)) 8 ≡ 0 ∷ 1 ∷ 0 ∷ 1 ∷ 0 ∷ 1 ∷ 0 ∷ 1 ∷ []
+unfolding tab run
+as-mode = refl
+
+-- ---- asPack, asOk, countIn
+
+-- the known AS of document 01
+pub as-known : packBytes (asPack I60 1602 1) ≡ 0x50 ∷ 0x56 ∷ 0x10 ∷ 0xC3 ∷ 0xC0 ∷ []
+unfolding asPack sizeOf pick
+as-known = refl
+
+module _ (y : System) (c : ℕ) (p : Pack) where
+  pub as-means : asOk y c p ≡ true → As y c p
+  as-means e =
+      let smpQu = eqb (p .pc4 % 64) 0 in
+      let stype = eqb (p .pc3 % 32) 3 in
+      let rate = eqb (p .pc3 / 32 % 2) (rateOf y) in
+      let mode = eqb (p .pc2 % 16) (modeOf c) in
+      let chn = ltb (p .pc2) 32 in
+      let count = isCount y (countIn p) in
+      let lf = ltb (p .pc1) 128 in
+      let all = both (eqb (p .pc0) 0x50) (lf && (count && (chn && (mode && (rate && (stype && smpQu)))))) e in
+      let seven = both lf (count && (chn && (mode && (rate && (stype && smpQu))))) (all .1) in
+      let six = both count (chn && (mode && (rate && (stype && smpQu)))) (seven .1) in
+      let five = both chn (mode && (rate && (stype && smpQu))) (six .1) in
+      let four = both mode (rate && (stype && smpQu)) (five .1) in
+      let three = both rate (stype && smpQu) (four .1) in
+      let two = both stype smpQu (three .1) in
+      record {
+        header = eqb-true (p .pc0) 0x50 (all .0);
+        lf = ltb-true (p .pc1) 128 (seven .0);
+        count = six .0;
+        chn = ltb-true (p .pc2) 32 (five .0);
+        mode = eqb-true (p .pc2 % 16) (modeOf c) (four .0);
+        rate = eqb-true (p .pc3 / 32 % 2) (rateOf y) (three .0);
+        stype = eqb-true (p .pc3 % 32) 3 (two .0);
+        smpQu = eqb-true (p .pc4 % 64) 0 (two .1);
+      }
+
+  pub as-when : As y c p → asOk y c p ≡ true
+  as-when h =
+      rw (
+        eq-eqb (p .pc0) 0x50 (h .header),
+        lt-ltb (p .pc1) 128 (h .lf),
+        h .count,
+        lt-ltb (p .pc2) 32 (h .chn),
+        eq-eqb (p .pc2 % 16) (modeOf c) (h .mode),
+        eq-eqb (p .pc3 / 32 % 2) (rateOf y) (h .rate),
+        eq-eqb (p .pc3 % 32) 3 (h .stype),
+      )
+      (eq-eqb (p .pc4 % 64) 0 (h .smpQu))
+
+-- a system's own count is one of two at 60 Hz, one at 50 Hz
+either : (a b : Bool) → (a || b) ≡ true → (a ≡ true) ⊎ (b ≡ true)
+either true b e = inl refl
+either false b e = inr e
+
+own-counts : (y : System) (count : ℕ) → isCount y count ≡ true → (P : System → ℕ → Type 0) → P I60 1600 → P I60 1602 → P I50 1920 → P P60 1600 → P P60 1602 → P P50 1920 → P y count
+own-counts I60 k h P a b c d e f = ⊎-elim (λ z. subst (P I60) (sym (eqb-true k 1600 z)) a) (λ z. subst (P I60) (sym (eqb-true k 1602 z)) b) (either (eqb k 1600) (eqb k 1602) h)
+own-counts I50 k h P a b c d e f = ⊎-elim (λ z. subst (P I50) (sym (eqb-true k 1920 z)) c) (λ z. subst (P I50) (sym (eqb-true k 1920 z)) c) (either (eqb k 1920) (eqb k 1920) h)
+own-counts P60 k h P a b c d e f = ⊎-elim (λ z. subst (P P60) (sym (eqb-true k 1600 z)) d) (λ z. subst (P P60) (sym (eqb-true k 1602 z)) e) (either (eqb k 1600) (eqb k 1602) h)
+own-counts P50 k h P a b c d e f = ⊎-elim (λ z. subst (P P50) (sym (eqb-true k 1920 z)) f) (λ z. subst (P P50) (sym (eqb-true k 1920 z)) f) (either (eqb k 1920) (eqb k 1920) h)
+
+-- an AS says its count
+pub as-count : (y : System) (count c : ℕ) → isCount y count ≡ true → countIn (asPack y count c) ≡ count
+unfolding asPack sizeOf countOf pick
+as-count y count c h = own-counts y count h (λ (z : System) (k : ℕ). countIn (asPack z k c) ≡ k) refl refl refl refl refl refl
+
+-- what is written is judged right
+pub as-written : (y : System) (count c : ℕ) → isCount y count ≡ true → asOk y c (asPack y count c) ≡ true
+unfolding asPack
+as-written y count c h = as-when y c (asPack y count c) (record {
+  header = refl;
+  lf = omega (arith, size-below count);
+  count = rw (as-count y count c h) h;
+  chn = omega arith;
+  mode = omega arith;
+  rate = omega (arith, rate-below y);
+  stype = omega (arith, rate-below y);
+  smpQu = refl;
+})
+
+-- ---- asAt, aauxPack
+
+-- "AS is pack 3 in even sequences, 0 in odd; ASC (51h, four FFh) follows."
+module _ (y : System) (count c q : ℕ) where
+  pub as-even : q % 2 ≡ 0 → aauxPack y count c q 3 ≡ asPack y count c
+  unfolding aauxPack asAt pick
+  as-even h = rw h refl
+
+  pub as-odd : q % 2 ≡ 1 → aauxPack y count c q 0 ≡ asPack y count c
+  unfolding aauxPack asAt pick
+  as-odd h = rw h refl
+
+  pub asc-even : q % 2 ≡ 0 → packBytes (aauxPack y count c q 4) ≡ 0x51 ∷ 0xFF ∷ 0xFF ∷ 0xFF ∷ 0xFF ∷ []
+  unfolding aauxPack asAt pick
+  asc-even h = rw h refl
+
+  pub asc-odd : q % 2 ≡ 1 → packBytes (aauxPack y count c q 1) ≡ 0x51 ∷ 0xFF ∷ 0xFF ∷ 0xFF ∷ 0xFF ∷ []
+  unfolding aauxPack asAt pick
+  asc-odd h = rw h refl
+
+  pub aaux-as : aauxPack y count c q (asAt q) ≡ asPack y count c
+  unfolding aauxPack
+  aaux-as = pick-true _ _ (eq-eqb (asAt q) (asAt q) refl)
+
+  pub aaux-asc : aauxPack y count c q (asAt q + 1) ≡ ascPack
+  unfolding aauxPack
+  aaux-asc = pick-false _ _ (ne-eqb (asAt q + 1) (asAt q) (λ e. omega arith)) ∙ pick-true _ _ (eq-eqb (asAt q + 1) (asAt q + 1) refl)
+
+  pub aaux-none : (a : ℕ) → (a ≡ asAt q → ⊥) → (a ≡ asAt q + 1 → ⊥) → aauxPack y count c q a ≡ noPack
+  unfolding aauxPack
+  aaux-none a d e = pick-false _ _ (ne-eqb a (asAt q) d) ∙ pick-false _ _ (ne-eqb a (asAt q + 1) e)
+
+pub as-below : (q : ℕ) → asAt q + 1 < 9
+unfolding asAt
+as-below q = pick-either (λ (k : ℕ). k + 1 < 9) _ (omega arith) (omega arith)
