@@ -1,4 +1,4 @@
--- The ways out of the functions that write packs. Assumes nothing.
+-- The ways out of the functions that judge and write packs. Assumes nothing.
 use mathlib.Core.Path.{_≡_, refl, sym}
 use mathlib.Core.Bool.{Bool, true, false, _&&_, _||_}
 use Prim.Native.Nat.{ℕ, _+_, _*_, _/_, _%_}
@@ -6,7 +6,6 @@ use lib.Dec.{eqb, ltb}
 use Rattle.base.specs.Bytes.{Byte}
 use Rattle.rules.specs.declared.System.{System}
 use Rattle.rules.specs.declared.Pack.{Pack}
-use Rattle.rules.specs.declared.SubcodePack.{SubcodePack}
 use Rattle.rules.specs.declared.SubcodePack.the-variants.{NoPack}
 use Rattle.rules.specs.Systems.{rateOf, stypeOf, isCount}
 use Rattle.rules.specs.Packs.{onesAfter}
@@ -14,8 +13,9 @@ use Rattle.rules.specs.Subcode.{kindOf}
 use Rattle.rules.specs.TimeCode.{digitsOk, lastFrame, clockOk, timeTaken}
 use Rattle.rules.specs.Vaux.{vsAt, vauxPack, vsOk}
 use Rattle.rules.specs.Aaux.{asAt, sizeOf, modeOf, asPack, aauxPack, countIn, asOk}
-use Rattle.rules.proofs.Packs.{kind-none-first, kind-none-second}
-use Rattle.rules.proofs.AuxPacks.{vaux-vs, vaux-vsc, vaux-none, aaux-as, aaux-asc, aaux-none}
+use Rattle.rules.proofs.Subcode.{kind-none-first, kind-none-second}
+use Rattle.rules.proofs.Vaux.{vaux-vs, vaux-vsc, vaux-none}
+use Rattle.rules.proofs.Aaux.{aaux-as, aaux-asc, aaux-none}
 
 -- ---- judgements, by what the callees say
 

@@ -26,7 +26,7 @@ fn size_of(count: u32) -> u8
 fn mode_of(c: u32) -> u32
     ensures { λ r. ⌜ r ≡ modeOf c ⌝ }
 {
-    1 - c % 2
+    if c % 2 == 0 { 1 } else { 0 }
 }
 
 // The AS of audio channel c.

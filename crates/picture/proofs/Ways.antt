@@ -16,7 +16,8 @@ use Rattle.picture.specs.Ruled.{Ruled}
 
 -- ---- what a slot carries: s and c are the step and the column of v's unit, b the number
 
-pub ten-number : (h q v s c b : ℕ) → q < 10 → s ≡ stepOf (v % 5) → c ≡ columnOf (v % 5) → b ≡ macroblock (10 * h + ((4 * h + q / 5 + 2 * (27 * q + v / 5)) % 10 + s) % 10) c ((27 * q + v / 5) / 5 % 27) → Macroblock b ≡ tenCarries h q v
+pub ten-number : (h q v s c b : ℕ) → q < 10 → s ≡ stepOf (v % 5) → c ≡ columnOf (v % 5)
+    → b ≡ macroblock (10 * h + ((4 * h + q / 5 + 2 * (27 * q + v / 5)) % 10 + s) % 10) c ((27 * q + v / 5) / 5 % 27) → Macroblock b ≡ tenCarries h q v
 unfolding tenCarries pick
 ten-number h q v s c b hq es ec eb = rw (lt-ltb q 10 hq, eb, es, ec) refl
 
@@ -24,7 +25,8 @@ pub ten-nothing : (h q v : ℕ) → 10 ≤ q → Nothing ≡ tenCarries h q v
 unfolding tenCarries pick
 ten-nothing h q v hq = rw (le-ltb q 10 hq) refl
 
-pub eleven-number : (h q v s c b : ℕ) → q < 11 → s ≡ stepOf (v % 5) → c ≡ columnOf (v % 5) → b ≡ macroblock (11 * h + ((4 * h + (27 * q + v / 5)) % 11 + s) % 11) c ((27 * q + v / 5) / 11) → Macroblock b ≡ elevenCarries h q v
+pub eleven-number : (h q v s c b : ℕ) → q < 11 → s ≡ stepOf (v % 5) → c ≡ columnOf (v % 5)
+    → b ≡ macroblock (11 * h + ((4 * h + (27 * q + v / 5)) % 11 + s) % 11) c ((27 * q + v / 5) / 11) → Macroblock b ≡ elevenCarries h q v
 unfolding elevenCarries pick
 eleven-number h q v s c b hq es ec eb = rw (lt-ltb q 11 hq, eb, es, ec) refl
 
@@ -60,7 +62,8 @@ no-channel y h q v lh = rw (le-ltb h 4 lh) refl
 
 -- ---- where a macroblock lies: m and s are the unit of its column and the step of that, r the slot
 
-pub ten-in : (b m s : ℕ) (r : Slot) → b < 5400 → m ≡ unitAt (b / 27 % 5) → s ≡ stepOf m → r ≡ slotAt (b / 1350) (tenTurn b (((b / 135 % 10 + 10 - s) % 10 + 6 * (b / 1350)) % 10)) m → In r ≡ tenFound b
+pub ten-in : (b m s : ℕ) (r : Slot) → b < 5400 → m ≡ unitAt (b / 27 % 5) → s ≡ stepOf m
+    → r ≡ slotAt (b / 1350) (tenTurn b (((b / 135 % 10 + 10 - s) % 10 + 6 * (b / 1350)) % 10)) m → In r ≡ tenFound b
 unfolding tenFound pick
 ten-in b m s r hb em es er = rw (lt-ltb b 5400 hb, er, es, em) refl
 
@@ -68,7 +71,8 @@ pub ten-past : (b : ℕ) → 5400 ≤ b → NoSlot ≡ tenFound b
 unfolding tenFound pick
 ten-past b hb = rw (le-ltb b 5400 hb) refl
 
-pub eleven-in : (b m s : ℕ) (r : Slot) → b < 5940 → m ≡ unitAt (b / 27 % 5) → s ≡ stepOf m → r ≡ slotAt (b / 1485) (11 * (b % 27) + ((b / 135 % 11 + 11 - s) % 11 + 7 * (b / 1485)) % 11) m → In r ≡ elevenFound b
+pub eleven-in : (b m s : ℕ) (r : Slot) → b < 5940 → m ≡ unitAt (b / 27 % 5) → s ≡ stepOf m
+    → r ≡ slotAt (b / 1485) (11 * (b % 27) + ((b / 135 % 11 + 11 - s) % 11 + 7 * (b / 1485)) % 11) m → In r ≡ elevenFound b
 unfolding elevenFound pick
 eleven-in b m s r hb em es er = rw (lt-ltb b 5940 hb, er, es, em) refl
 

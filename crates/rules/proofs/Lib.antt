@@ -3,7 +3,9 @@ pub mod Places
 pub mod Ids
 pub mod Blocks
 pub mod Packs
-pub mod AuxPacks
+pub mod Subcode
+pub mod Vaux
+pub mod Aaux
 pub mod Samples
 pub mod Sound
 pub mod Picture

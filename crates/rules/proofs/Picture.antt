@@ -1,7 +1,7 @@
 -- Laws of the picture slots: every macroblock lies in exactly one slot, by tests that antt computes. Assumes nothing.
 use mathlib.Core.Path.{_≡_, refl, sym, ap, _∙_}
 use mathlib.Core.Bool.{Bool, true, false, not, _&&_}
-use Prim.Native.Nat.{ℕ, _<_, _≤_, _+_, _*_, _/_, _%_}
+use Prim.Native.Nat.{ℕ, _<_, _≤_}
 use native.Mathlib.Omega.{arith}
 use lib.Dec.{T, eqb, ltb, eqb→eq, ltb→lt}
 use borrow.Author.Tests.{ltb-true, ltb-false, eqb-true, lt-ltb, le-ltb, eq-eqb, ne-eqb, not-true, not-false}
@@ -12,7 +12,6 @@ use Rattle.base.proofs.Picks.{pick-true, pick-false, pick-either}
 use Rattle.base.proofs.Below.{below, below-at, both-left, both-right}
 use Rattle.rules.specs.declared.System.{System}
 use Rattle.rules.specs.declared.System.the-variants.{I60, I50, P60, P50}
-use Rattle.rules.specs.declared.BlockNumber.{BlockNumber}
 use Rattle.rules.specs.declared.Slot.{Slot}
 use Rattle.rules.specs.declared.Carried.{Carried}
 use Rattle.rules.specs.declared.Carried.the-variants.{Macroblock, Nothing}
@@ -113,7 +112,8 @@ unfolding pick
 carried-picked true x b e = (refl, e)
 carried-picked false x b e = let q : _≡_ {A = ℕ} 0 1 = cc in absurd (omega arith)
 
-within-carried : (f : ℕ → ℕ → ℕ → Carried) (s : Slot) (b : ℕ) → within f s ≡ Macroblock b → (s .channel < 4) × (s .video .0 < 135) × (f (s .channel) (s .sequence) (s .video .0) ≡ Macroblock b)
+within-carried : (f : ℕ → ℕ → ℕ → Carried) (s : Slot) (b : ℕ) → within f s ≡ Macroblock b
+    → (s .channel < 4) × (s .video .0 < 135) × (f (s .channel) (s .sequence) (s .video .0) ≡ Macroblock b)
 unfolding within
 within-carried f s b e =
     let p = carried-picked (ltb (s .channel) 4) _ b e in
@@ -169,7 +169,6 @@ lies y b NoSlot e m = let q : _≡_ {A = ℕ} 0 1 = cc in absurd (omega arith)
 pub carrier-one : (y : System) (b : ℕ) → b < macroblocksOf y → ExactlyOne Slot (λ s. carriedIn y s ≡ Macroblock b)
 carrier-one y b h = lies y b (carrierOf y b) refl (carrier-carries y b h)
 
--- "A number past the system's macroblocks lies in no slot"
 ten-past : (b : ℕ) → 5400 ≤ b → tenFound b ≡ NoSlot
 unfolding tenFound pick
 ten-past b h = rw (le-ltb b 5400 h) refl
@@ -178,6 +177,7 @@ eleven-past : (b : ℕ) → 6075 ≤ b → elevenFound b ≡ NoSlot
 unfolding elevenFound pick
 eleven-past b h = rw (le-ltb b 5940 (omega arith), le-ltb b 6075 h) refl
 
+-- a number past the system's macroblocks lies in no slot
 pub carrier-past : (y : System) (b : ℕ) → macroblocksOf y ≤ b → carrierOf y b ≡ NoSlot
 carrier-past I60 = ten-past
 carrier-past I50 = eleven-past

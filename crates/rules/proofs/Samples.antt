@@ -9,12 +9,14 @@ use native.Mathlib.Omega.{arith}
 use lib.Dec.{eqb, leb}
 use lib.ListN.{length, getD}
 use lib.IntN.{ℤ, pos, negsuc}
+use lib.Signed.{leZ}
 use mir.Syntax.{w16}
 use mir.Val.{toZ, ofZ}
 use mir.ValLaws.{toZ-pos, toZ-neg}
 use borrow.Author.Tests.{le-leb, lt-leb, eq-eqb, ne-eqb, leb-true}
 use Rattle.base.specs.Pick.{pick}
-use Rattle.base.proofs.Picks.{both-held}
+use Rattle.base.proofs.Cases.{by-bool}
+use Rattle.base.proofs.Picks.{pick-either, both-held}
 use Rattle.rules.specs.declared.Sample.{Sample}
 use Rattle.rules.specs.declared.Sample.the-variants.{Level, Lost}
 use Rattle.rules.specs.declared.SampleNumber.{SampleNumber}
@@ -77,6 +79,19 @@ number-again (pos n) e =
 number-again (negsuc n) e =
     let h : n ≤ 32767 = leb-true n 32767 (both-held (leb n 32767) true e .0) in
     ⊎-elim (λ (q : n ≡ 32767). rw q least-again) (λ (l : n < 32767). below-again n l ∙ rw (lt-leb 32767 n l)) (eq-or-lt-of-le h)
+
+-- a word has 16 bits
+level-below : (z : ℤ) → inRange z ≡ true → wordOf (Level z) < 65536
+unfolding wordOf inRange
+level-below (pos n) e = let k : n ≤ 32768 = leb-true n 32768 e in pick-either (λ w. w < 65536) _ (omega arith) (omega arith)
+level-below (negsuc n) e = pick-either (λ w. w < 65536) _ (omega arith) (omega arith)
+
+pub word-below : (z : ℤ) → wordFor z < 65536
+unfolding sampleIn wordIn wordOf pick
+word-below z =
+    by-bool (inRange z)
+    (λ e. by-bool (leZ lost z) (λ f. rw (e, f) (omega arith)) (λ f. rw (e, f) (level-below z e)))
+    (λ e. rw e (omega arith))
 
 -- `backOf` in the paper's numbers
 pub back-least : backOf (negsuc 32767) ≡ negsuc 32766

@@ -1,15 +1,17 @@
 -- Laws of the four systems. Assumes nothing.
 use mathlib.Core.Path.{_≡_, refl, sym, ap, _∙_}
-use mathlib.Core.Logic.{_⊎_, inl, inr}
+use mathlib.Core.Bool.{true}
+use mathlib.Core.Logic.{_⊎_, inl, inr, ⊎-elim}
 use Prim.Native.Nat.{ℕ, _+_, _*_, _≤_, _<_}
 use native.Mathlib.Omega.{arith}
-use borrow.Author.Tests.{ne-eqb}
+use borrow.Author.Tests.{ne-eqb, eqb-true}
 use Rattle.base.specs.Pick.{pick}
+use Rattle.base.proofs.Cases.{by-eq}
 use Rattle.rules.specs.declared.System.{System}
 use Rattle.rules.specs.declared.System.the-variants.{I60, I50, P60, P50}
 use Rattle.rules.specs.declared.SystemNumber.{SystemNumber}
 use Rattle.rules.specs.declared.SystemNumber.the-variants.{Known, NoSystem}
-use Rattle.rules.specs.Systems.{sequencesOf, halfOf, positionsOf, countsOf, rateOf, systemOf, numberOf}
+use Rattle.rules.specs.Systems.{sequencesOf, halfOf, positionsOf, countsOf, isCount, rateOf, systemOf, numberOf}
 
 -- ---- systemOf
 
@@ -92,3 +94,29 @@ counts-below I60 = omega arith
 counts-below I50 = omega arith
 counts-below P60 = omega arith
 counts-below P50 = omega arith
+
+-- one of a system's own counts is its fewer or its more
+pub count-cases : (y : System) (k : ℕ) → isCount y k ≡ true → (k ≡ countsOf y .fewer) ⊎ (k ≡ countsOf y .more)
+count-cases y k e =
+    by-eq k (countsOf y .fewer) (λ same. inl same)
+    (λ other. inr (eqb-true _ _ (rw (ne-eqb k (countsOf y .fewer) other) at e)))
+
+pub count-below : (y : System) (k : ℕ) → isCount y k ≡ true → k < positionsOf y
+count-below y k e = ⊎-elim (λ f. omega (arith, counts-below y)) (λ m. omega (arith, counts-below y)) (count-cases y k e)
+
+pub positions-le : (y : System) → positionsOf y ≤ 1944
+positions-le I60 = omega arith
+positions-le I50 = omega arith
+positions-le P60 = omega arith
+positions-le P50 = omega arith
+
+-- every count has 35 whole turns of 9 s samples, so that only a block's last word may be past it
+pub counts-turns : (y : System) → (9 * halfOf y * 35 ≤ countsOf y .fewer) × (9 * halfOf y * 35 ≤ countsOf y .more)
+unfolding halfOf
+counts-turns I60 = (omega arith, omega arith)
+counts-turns I50 = (omega arith, omega arith)
+counts-turns P60 = (omega arith, omega arith)
+counts-turns P50 = (omega arith, omega arith)
+
+pub count-turns : (y : System) (k : ℕ) → isCount y k ≡ true → 9 * halfOf y * 35 ≤ k
+count-turns y k e = ⊎-elim (λ f. omega (arith, counts-turns y)) (λ m. omega (arith, counts-turns y)) (count-cases y k e)

@@ -30,8 +30,8 @@ use Rattle.rules.specs.Blocks.{startOf, blockAt}
 use Rattle.rules.specs.Packs.{packIn, packBytes}
 use Rattle.rules.specs.Header.{headerBytes}
 use Rattle.rules.specs.TimeCode.{timePack, groupPack}
-use Rattle.rules.specs.Subcode.{isFirst, ssyb, subcodeBytes}
-use Rattle.rules.specs.Vaux.{vauxPack, vauxBytes}
+use Rattle.rules.specs.Subcode.{isFirst, ssyb, ssybs, subcodeBytes}
+use Rattle.rules.specs.Vaux.{vauxPack, vauxPacks, vauxBytes}
 use Rattle.rules.specs.Aaux.{aauxPack}
 use Rattle.rules.specs.Samples.{numberOf, sampleOf, allInRange, wordFor, bytesOf, wordAt, backOf}
 use Rattle.rules.specs.Sound as sound
@@ -42,6 +42,9 @@ use Rattle.rules.specs.Written.{Lent, storedWord, wordBytes, audioBytes,
 use Rattle.rules.proofs.Systems.{half-cases, half-twice, positions-half, sequences-le}
 use Rattle.rules.proofs.Places.{place-in-below, entry-place-in}
 use Rattle.rules.proofs.Blocks.{block-in-sequence}
+use Rattle.rules.proofs.Packs.{header-length}
+use Rattle.rules.proofs.Subcode.{subcode-length}
+use Rattle.rules.proofs.Vaux.{vaux-length}
 use Rattle.rules.proofs.Faults.{written-names}
 use Rattle.rules.proofs.Samples.{bytes-word, number-again, silence, all-in}
 use Rattle.rules.proofs.Sound.{Half, sample-back, row-below, audio-below, word-below, row-sequence, audio-sequence, sequence-below}
@@ -52,30 +55,16 @@ word-wide : (y : System) (l : Lent) (h q a : ℕ) → Wide 2 (wordBytes y l h q 
 unfolding wordBytes
 word-wide y l h q a w = refl
 
-subcode-bytes-length : (first : Bool) (time group : Pack) (k : ℕ) → length (subcodeBytes first time group k) ≡ 77
-unfolding subcodeBytes ssyb
-subcode-bytes-length first time group k =
-    let f : ℕ → List ℕ = λ j. ssyb first time group (6 * k + j) in
-    let n : length (run f 6) ≡ 6 * 8 = length-run 8 f (λ j. refl) 6 in
-    length-append (run f 6) (replicate 29 0xFF) ∙ omega arith
-
-vaux-bytes-length : (y : System) (q k : ℕ) → length (vauxBytes y q k) ≡ 77
-unfolding vauxBytes
-vaux-bytes-length y q k =
-    let f : ℕ → List ℕ = λ j. packBytes (vauxPack y q (15 * k + j)) in
-    let n : length (run f 15) ≡ 15 * 5 = length-run 5 f (λ j. refl) 15 in
-    length-append (run f 15) (0xFF ∷ 0xFF ∷ []) ∙ omega arith
-
 carried-length : (ms : List ℕ) (c : Carried) → length (carriedBytes ms c) ≡ 77
 unfolding carriedBytes
 carried-length ms (Macroblock b) = length-tab _ 77
 carried-length ms Nothing = refl
 
 pub payload-length : (y : System) (l : Lent) (h q : ℕ) (s : Section) (k : ℕ) → length (payload y l h q s k) ≡ 77
-unfolding payload headerBytes audioBytes videoBytes
-payload-length y l h q Header k = refl
-payload-length y l h q Subcode k = subcode-bytes-length (isFirst y q) (timePack (l .timeCode)) (groupPack (l .binaryGroup)) k
-payload-length y l h q Vaux k = vaux-bytes-length y q k
+unfolding payload audioBytes videoBytes
+payload-length y l h q Header k = header-length y
+payload-length y l h q Subcode k = subcode-length (isFirst y q) (timePack (l .timeCode)) (groupPack (l .binaryGroup)) k
+payload-length y l h q Vaux k = vaux-length y q k
 payload-length y l h q Audio k = omega (arith, length-run 2 (wordBytes y l h q k) (word-wide y l h q k) 36)
 payload-length y l h q Video k = carried-length (l .macroblocks) (carriedIn y (slot h q k))
 

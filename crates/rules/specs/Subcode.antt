@@ -42,9 +42,13 @@ frByte first = pick first 0xFF 0x7F
 unfoldable pub ssyb : Bool → Pack → Pack → ℕ → List ℕ
 ssyb first time group k = frByte first ∷ (0xF0 + k) ∷ 0xFF ∷ packBytes (subcodePack (kindOf first k) time group)
 
--- bytes 3 to 79 of SC(k): "SSYB 0-5 in SC0, 6-11 in SC1, eight bytes each from byte 3"
+-- those of SC(k): "SSYB 0-5 in SC0, 6-11 in SC1, eight bytes each from byte 3"
+unfoldable pub ssybs : Bool → Pack → Pack → ℕ → List ℕ
+ssybs first time group k = run (λ (j : ℕ). ssyb first time group (6 * k + j)) 6
+
+-- bytes 3 to 79 of SC(k)
 unfoldable pub subcodeBytes : Bool → Pack → Pack → ℕ → List ℕ
-subcodeBytes first time group k = run (λ (j : ℕ). ssyb first time group (6 * k + j)) 6 ++ replicate 29 0xFF
+subcodeBytes first time group k = ssybs first time group k ++ replicate 29 0xFF
 
 -- ---- what is read
 

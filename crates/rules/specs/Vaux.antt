@@ -29,9 +29,13 @@ vscPack = onesAfter 0x61
 unfoldable pub vauxPack : System → ℕ → ℕ → Pack
 vauxPack y q k = pick (eqb k (vsAt q)) (vsPack y) (pick (eqb k (vsAt q + 1)) vscPack noPack)
 
--- bytes 3 to 79 of VA(k): "45 packs, 15 to a block, five bytes each from byte 3"
+-- those of VA(k): "45 packs, 15 to a block, five bytes each from byte 3"
+unfoldable pub vauxPacks : System → ℕ → ℕ → List ℕ
+vauxPacks y q k = run (λ (j : ℕ). packBytes (vauxPack y q (15 * k + j))) 15
+
+-- bytes 3 to 79 of VA(k)
 unfoldable pub vauxBytes : System → ℕ → ℕ → List ℕ
-vauxBytes y q k = run (λ (j : ℕ). packBytes (vauxPack y q (15 * k + j))) 15 ++ 0xFF ∷ 0xFF ∷ []
+vauxBytes y q k = vauxPacks y q k ++ 0xFF ∷ 0xFF ∷ []
 
 -- ---- what is judged
 

@@ -3,11 +3,11 @@ use borrow.Author.Needs.{needs}
 use Rattle.packs.proofs.aaux.mode_of.Statement.{statement}
 use Rattle.packs.proofs.aaux.mode_of.Tie as tie
 
-sub-result : tie.Need-sub-result
-sub-result c = search needs
-
 returns : tie.Need-returns
 returns c = search needs
 
+returns-2 : tie.Need-returns-2
+returns-2 c = search needs
+
 pub mode-of-spec : {M : Type 1} → statement M
-mode-of-spec = tie.close (tie.spec sub-result returns)
+mode-of-spec = tie.close (tie.spec returns returns-2)

@@ -1,0 +1,47 @@
+// The video blocks: 77 bytes of a macroblock, or none.
+ghost use mathlib.Core.Path.{_≡_};
+ghost use mathlib.Core.List.{_++_};
+ghost use lib.ListN.{length};
+ghost use Rattle.rules.specs.Ids.{idBytes};
+ghost use Rattle.rules.specs.Picture.{slot, carriedIn};
+ghost use Rattle.rules.specs.Written.{carriedBytes};
+ghost use Rattle.writer.specs.Asked.{CopyAsked, VideoAsked};
+use crate::parts;
+use rules::BlockId;
+use rules::Carried;
+use rules::System;
+
+// 77 bytes from one part to another; the length is written out, for the sake of the loop.
+fn copy_macroblock(part: &mut [u8], from: &[u8])
+    requires { ⌜ CopyAsked (now part) (now from) ⌝ }
+    ensures { λ _. ⌜ now (part .exit) ≡ now (from .entry) ⌝ }
+{
+    let mut i = 0;
+    while i < 77 {
+        part[i] = from[i];
+        i += 1;
+    }
+}
+
+pub(crate) fn write_video(
+    block: &mut [u8],
+    id: BlockId,
+    y: System,
+    h: u32,
+    q: u32,
+    macroblocks: &[u8],
+    v: u32,
+)
+    requires { ⌜ VideoAsked (now block) y (now macroblocks) ⌝ }
+    ensures { λ _. ⌜ now (block .exit) ≡ idBytes id ++ carriedBytes (now (macroblocks .entry)) (carriedIn y (slot h q v)) ⌝ }
+{
+    parts::put_id(&mut block[0..3], id);
+    match picture::carried(y, h, q, v) {
+        Carried::Macroblock(b) => {
+            let at = 77 * (b as usize);
+            let to = at + 77;
+            copy_macroblock(&mut block[3..80], &macroblocks[at..to]);
+        }
+        Carried::Nothing => base::fill(&mut block[3..80], 0xFF),
+    }
+}
