@@ -81,15 +81,15 @@ module _ (k : ℕ) (l : Lent) (size : ℕ) where
         let d = first-zero _ _ _ (c .1) in
         let e = first-zero _ _ _ (d .1) in
         let f = first-zero _ _ _ (e .1) in
-        let lengths = both-held _ _ (not-false _ (d .0)) in
-        let rest = both-held _ _ (lengths .1) in
-        let last = both-held _ _ (rest .1) in
+        let last = both-held _ _ (not-false _ (d .0)) in
+        let third = both-held _ _ (last .0) in
+        let two = both-held _ _ (third .0) in
         record {
           frame = eqb-true _ _ (not-false _ (b .0));
           counts = not-false _ (c .0);
-          sounds = eqb-true _ _ (lengths .0);
-          pictures = eqb-true _ _ (rest .0);
-          times = eqb-true _ _ (last .0);
+          sounds = eqb-true _ _ (two .0);
+          pictures = eqb-true _ _ (two .1);
+          times = eqb-true _ _ (third .1);
           groups = eqb-true _ _ (last .1);
           levels = not-false _ (e .0);
           clock = not-false _ (f .0);
@@ -98,7 +98,7 @@ module _ (k : ℕ) (l : Lent) (size : ℕ) where
     pub takes-taken : Takes y l size → writeNumber k l size ≡ 0
     takes-taken t =
         let lengths : lengthsOk l y ≡ true =
-        both-hold (eq-eqb _ _ (t .sounds)) (both-hold (eq-eqb _ _ (t .pictures)) (both-hold (eq-eqb _ _ (t .times)) (eq-eqb _ _ (t .groups)))) in
+        both-hold (both-hold (both-hold (eq-eqb _ _ (t .sounds)) (eq-eqb _ _ (t .pictures))) (eq-eqb _ _ (t .times))) (eq-eqb _ _ (t .groups)) in
         sym (write-0 (eq-eqb _ _ (t .frame)) (t .counts) lengths (t .levels) (t .clock))
 
 -- ---- writeLeft

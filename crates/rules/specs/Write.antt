@@ -25,9 +25,9 @@ lent count sound macroblocks time group = record { count = count; sound = sound;
 abbrev pub lengthsOk : Lent → System → Bool
 lengthsOk l y =
     eqb (length (l .sound)) (8 * l .count)
-    && (eqb (length (l .macroblocks)) (77 * macroblocksOf y)
-    && (eqb (length (l .timeCode)) 4
-    && eqb (length (l .binaryGroup)) 4))
+    && eqb (length (l .macroblocks)) (77 * macroblocksOf y)
+    && eqb (length (l .timeCode)) 4
+    && eqb (length (l .binaryGroup)) 4
 
 abbrev pub countOk : Lent → System → Bool
 countOk l y = isCount y (l .count)

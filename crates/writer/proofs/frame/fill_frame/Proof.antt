@@ -1,79 +1,71 @@
+-- `writer::frame::fill_frame` meets its contract: the first DIF channels are written, and the rest is as it was. Assumes nothing.
+use borrow.Author.Needs.{needs}
+use mathlib.Core.Path.{_≡_, refl}
+use Prim.Native.Nat.{_-_, _≤_}
+use native.Mathlib.Omega.{arith}
+use lib.ListN.{length}
+use Rattle.base.proofs.Filling.{Filled}
+use Prim.Native.Nat.{_*_}
+use Rattle.rules.specs.Systems.{sequencesOf}
+use Rattle.rules.specs.Written.{writtenChannel}
+use Rattle.rules.specs.Write.{lent}
+use Rattle.writer.proofs.Whole.{size-fits, start-fits, end-fits, channel-within, channel-part-asked, frame-none, frame-turn, frame-done}
 use Rattle.writer.proofs.frame.fill_frame.Statement.{statement}
 use Rattle.writer.proofs.frame.fill_frame.Tie as tie
-use Rattle.writer.proofs.frame.fill_frame.Reads as reads
-use Rattle.writer.proofs.frame.fill_frame.Lts as lts
-use Rattle.layout.proofs.sequences.Reads as sequences-reads
-use Rattle.writer.proofs.frame.write_channel.Reads as write-channel-reads
 
 abbrev Inv-loop : tie.InvT-loop
-Inv-loop frame₀ y count sound macroblocks time group size h₀ frame h = ?
+Inv-loop frame₀ y count sound macroblocks time group size h₀ frame h = Filled (sequencesOf y * 12000) (writtenChannel y (lent count sound macroblocks time group)) h frame₀ frame × (length frame ≡ length frame₀) × (h ≤ 4)
 
 abbrev μ-loop : tie.MeasureT-loop
-μ-loop frame₀ y count sound macroblocks time group size h₀ frame h = ?
+μ-loop frame₀ y count sound macroblocks time group size h₀ frame h = 4 - h
 
--- src/frame.rt:55:17
 sequences-requires : tie.Need-sequences-requires Inv-loop μ-loop
-sequences-requires c κs = ?
+sequences-requires c κs = search needs
 
--- src/frame.rt:55:17
 cast-size : tie.Need-cast-size Inv-loop μ-loop
-cast-size c = ?
+cast-size c = search needs
 
--- src/frame.rt:55:16
 mul-size : tie.Need-mul-size Inv-loop μ-loop
-mul-size c = ?
+mul-size c = search (size-fits, needs)
 
--- src/frame.rt:57:5
 loop-holds : tie.Need-loop-holds Inv-loop μ-loop
-loop-holds c = ?
+loop-holds c = (frame-none _ _ _, refl, omega arith)
 
--- src/frame.rt:58:19
 cast-at : tie.Need-cast-at Inv-loop μ-loop
-cast-at c = ?
+cast-at c = search needs
 
--- src/frame.rt:58:18
 mul-at : tie.Need-mul-at Inv-loop μ-loop
-mul-at c = ?
+mul-at c = search (start-fits, needs)
 
--- src/frame.rt:59:18
 add-to : tie.Need-add-to Inv-loop μ-loop
-add-to c = ?
+add-to c = search (end-fits, needs)
 
--- src/frame.rt:61:13
 sub-write-channel : tie.Need-sub-write-channel Inv-loop μ-loop
-sub-write-channel c = ?
+sub-write-channel c = search needs
 
--- src/frame.rt:61:13
 part-write-channel-start : tie.Need-part-write-channel-start Inv-loop μ-loop
-part-write-channel-start c = ?
+part-write-channel-start c = search needs
 
--- src/frame.rt:61:13
 part-write-channel-end : tie.Need-part-write-channel-end Inv-loop μ-loop
-part-write-channel-end c = ?
+part-write-channel-end c = search (channel-within, needs)
 
--- src/frame.rt:60:9
 write-channel-requires : tie.Need-write-channel-requires Inv-loop μ-loop
-write-channel-requires c κs = ?
+write-channel-requires c κs = search (channel-part-asked, needs)
 
--- src/frame.rt:70:9
 add-h : tie.Need-add-h Inv-loop μ-loop
-add-h c = ?
+add-h c = search needs
 
--- src/frame.rt:57:5
 loop-less : tie.Need-loop-less Inv-loop μ-loop
-loop-less c = ?
+loop-less c = search needs
 
--- src/frame.rt:57:5
 loop-again : tie.Need-loop-again Inv-loop μ-loop
-loop-again c = ?
+loop-again c = (search (frame-turn, needs), search needs, search needs)
 
--- src/frame.rt:43:1
 same-length : tie.Need-same-length Inv-loop μ-loop
-same-length c = ?
+same-length c = search needs
 
--- src/frame.rt:43:1
 returns : tie.Need-returns Inv-loop μ-loop
-returns c = ?
+returns c = search (frame-done, needs)
 
 pub fill-frame-spec : {M : Type 1} → statement M
 fill-frame-spec =

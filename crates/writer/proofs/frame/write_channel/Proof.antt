@@ -1,71 +1,64 @@
+-- `writer::frame::write_channel` meets its contract: the first sequences are written, and the rest is as it was. Assumes nothing.
+use borrow.Author.Needs.{needs}
+use mathlib.Core.Path.{_≡_, refl}
+use Prim.Native.Nat.{_-_, _≤_}
+use native.Mathlib.Omega.{arith}
+use lib.ListN.{length}
+use Rattle.base.proofs.Filling.{Filled, filled-none}
+use Rattle.rules.specs.Systems.{sequencesOf}
+use Rattle.rules.specs.Written.{writtenSequence}
+use Rattle.rules.specs.Write.{lent}
+use Rattle.writer.proofs.Whole.{sequence-next, sequence-asked, channel-turn, channel-done}
 use Rattle.writer.proofs.frame.write_channel.Statement.{statement}
 use Rattle.writer.proofs.frame.write_channel.Tie as tie
-use Rattle.writer.proofs.frame.write_channel.Reads as reads
-use Rattle.writer.proofs.frame.write_channel.Lts as lts
-use Rattle.layout.proofs.sequences.Reads as sequences-reads
-use Rattle.writer.proofs.sequence.write_sequence.Reads as write-sequence-reads
 
 abbrev Inv-loop : tie.InvT-loop
-Inv-loop part₀ y h count sound macroblocks time group q₀ part q = ?
+Inv-loop part₀ y h count sound macroblocks time group q₀ part q = Filled 12000 (writtenSequence y (lent count sound macroblocks time group) h) q part₀ part × (length part ≡ length part₀) × (q ≤ sequencesOf y)
 
 abbrev μ-loop : tie.MeasureT-loop
-μ-loop part₀ y h count sound macroblocks time group q₀ part q = ?
+μ-loop part₀ y h count sound macroblocks time group q₀ part q = sequencesOf y - q
 
--- src/frame.rt:25:5
 loop-holds : tie.Need-loop-holds Inv-loop μ-loop
-loop-holds c = ?
+loop-holds c = (filled-none 12000 _ _, refl, omega arith)
 
--- src/frame.rt:25:15
 sequences-requires : tie.Need-sequences-requires Inv-loop μ-loop
-sequences-requires c κs = ?
+sequences-requires c κs = search needs
 
--- src/frame.rt:26:19
 cast-at : tie.Need-cast-at Inv-loop μ-loop
-cast-at c = ?
+cast-at c = search needs
 
--- src/frame.rt:26:18
 mul-at : tie.Need-mul-at Inv-loop μ-loop
-mul-at c = ?
+mul-at c = search needs
 
--- src/frame.rt:27:18
 add-to : tie.Need-add-to Inv-loop μ-loop
-add-to c = ?
+add-to c = search needs
 
--- src/frame.rt:29:13
 sub-write-sequence : tie.Need-sub-write-sequence Inv-loop μ-loop
-sub-write-sequence c = ?
+sub-write-sequence c = search needs
 
--- src/frame.rt:29:13
 part-write-sequence-start : tie.Need-part-write-sequence-start Inv-loop μ-loop
-part-write-sequence-start c = ?
+part-write-sequence-start c = search needs
 
--- src/frame.rt:29:13
 part-write-sequence-end : tie.Need-part-write-sequence-end Inv-loop μ-loop
-part-write-sequence-end c = ?
+part-write-sequence-end c = search needs
 
--- src/frame.rt:28:9
 write-sequence-requires : tie.Need-write-sequence-requires Inv-loop μ-loop
-write-sequence-requires c κs = ?
+write-sequence-requires c κs = search (sequence-asked, needs)
 
--- src/frame.rt:39:9
 add-q : tie.Need-add-q Inv-loop μ-loop
-add-q c = ?
+add-q c = search needs
 
--- src/frame.rt:25:5
 loop-less : tie.Need-loop-less Inv-loop μ-loop
-loop-less c = ?
+loop-less c = search needs
 
--- src/frame.rt:25:5
 loop-again : tie.Need-loop-again Inv-loop μ-loop
-loop-again c = ?
+loop-again c = (search (channel-turn, needs), search needs, search (sequence-next, needs))
 
--- src/frame.rt:11:1
 same-length : tie.Need-same-length Inv-loop μ-loop
-same-length c = ?
+same-length c = search needs
 
--- src/frame.rt:11:1
 returns : tie.Need-returns Inv-loop μ-loop
-returns c = ?
+returns c = search (channel-done, needs)
 
 pub write-channel-spec : {M : Type 1} → statement M
 write-channel-spec =

@@ -1,80 +1,69 @@
+-- `writer::sequence::write_sequence` meets its contract: the first blocks are written, and the rest is as it was. Assumes nothing.
+use borrow.Author.Needs.{needs}
+use mathlib.Core.Path.{_≡_, refl}
+use Prim.Native.Nat.{_-_, _≤_}
+use native.Mathlib.Omega.{arith}
+use lib.ListN.{length}
+use Rattle.base.proofs.Filling.{Filled, filled-none}
+use Rattle.rules.specs.Written.{writtenBlock}
+use Rattle.rules.specs.Write.{lent}
+use Rattle.writer.proofs.Whole.{block-asked, sequence-turn, sequence-done}
 use Rattle.writer.proofs.sequence.write_sequence.Statement.{statement}
 use Rattle.writer.proofs.sequence.write_sequence.Tie as tie
-use Rattle.writer.proofs.sequence.write_sequence.Reads as reads
-use Rattle.writer.proofs.sequence.write_sequence.Lts as lts
-use Rattle.layout.proofs.entry_of.Reads as entry-of-reads
-use Rattle.layout.proofs.printed_places.Reads as printed-places-reads
-use Rattle.writer.proofs.sequence.write_block.Reads as write-block-reads
 
 abbrev Inv-loop : tie.InvT-loop
-Inv-loop part₀ y h q count sound macroblocks time group table p₀ part p = ?
+Inv-loop part₀ y h q count sound macroblocks time group table p₀ part p = Filled 80 (writtenBlock y (lent count sound macroblocks time group) h q) p part₀ part × (length part ≡ length part₀) × (p ≤ 150)
 
 abbrev μ-loop : tie.MeasureT-loop
-μ-loop part₀ y h q count sound macroblocks time group table p₀ part p = ?
+μ-loop part₀ y h q count sound macroblocks time group table p₀ part p = 150 - p
 
--- src/sequence.rt:71:17
 printed-places-requires : tie.Need-printed-places-requires Inv-loop μ-loop
-printed-places-requires c κs = ?
+printed-places-requires c κs = search needs
 
--- src/sequence.rt:73:5
 loop-holds : tie.Need-loop-holds Inv-loop μ-loop
-loop-holds c = ?
+loop-holds c = (filled-none 80 _ _, refl, omega arith)
 
--- src/sequence.rt:74:18
 mul-at : tie.Need-mul-at Inv-loop μ-loop
-mul-at c = ?
+mul-at c = search needs
 
--- src/sequence.rt:75:18
 add-to : tie.Need-add-to Inv-loop μ-loop
-add-to c = ?
+add-to c = search needs
 
--- src/sequence.rt:77:13
 sub-write-block : tie.Need-sub-write-block Inv-loop μ-loop
-sub-write-block c = ?
+sub-write-block c = search needs
 
--- src/sequence.rt:77:13
 part-write-block-start : tie.Need-part-write-block-start Inv-loop μ-loop
-part-write-block-start c = ?
+part-write-block-start c = search needs
 
--- src/sequence.rt:77:13
 part-write-block-end : tie.Need-part-write-block-end Inv-loop μ-loop
-part-write-block-end c = ?
+part-write-block-end c = search needs
 
--- src/sequence.rt:81:30
 mul-entry-of : tie.Need-mul-entry-of Inv-loop μ-loop
-mul-entry-of c = ?
+mul-entry-of c = search needs
 
--- src/sequence.rt:81:30
 array-read-entry-of : tie.Need-array-read-entry-of Inv-loop μ-loop
-array-read-entry-of c = ?
+array-read-entry-of c = search needs
 
--- src/sequence.rt:81:13
 entry-of-requires : tie.Need-entry-of-requires Inv-loop μ-loop
-entry-of-requires c κs = ?
+entry-of-requires c κs = search needs
 
--- src/sequence.rt:76:9
 write-block-requires : tie.Need-write-block-requires Inv-loop μ-loop
-write-block-requires c κs = ?
+write-block-requires c κs = search (block-asked, needs)
 
--- src/sequence.rt:88:9
 add-p : tie.Need-add-p Inv-loop μ-loop
-add-p c = ?
+add-p c = search needs
 
--- src/sequence.rt:73:5
 loop-less : tie.Need-loop-less Inv-loop μ-loop
-loop-less c = ?
+loop-less c = search needs
 
--- src/sequence.rt:73:5
 loop-again : tie.Need-loop-again Inv-loop μ-loop
-loop-again c = ?
+loop-again c = (search (sequence-turn, needs), search needs, search needs)
 
--- src/sequence.rt:57:1
 same-length : tie.Need-same-length Inv-loop μ-loop
-same-length c = ?
+same-length c = search needs
 
--- src/sequence.rt:57:1
 returns : tie.Need-returns Inv-loop μ-loop
-returns c = ?
+returns c = search (sequence-done, needs)
 
 pub write-sequence-spec : {M : Type 1} → statement M
 write-sequence-spec =
