@@ -13,3 +13,16 @@ pub fn field(x: u32) {
 pub fn end() {
     io::write_all(1, b"\n");
 }
+
+fn digit(digits: &[u8], i: usize) {
+    if i < digits.len() {
+        io::write_all(1, &digits[i..i + 1]);
+    }
+}
+
+// A byte as two upper-case hex digits.
+pub fn hex(x: u8) {
+    io::write_all(1, b"\t");
+    digit(b"0123456789ABCDEF", (x / 16) as usize);
+    digit(b"0123456789ABCDEF", (x % 16) as usize);
+}

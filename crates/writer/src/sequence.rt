@@ -48,7 +48,19 @@ fn write_block(
         }
         Section::Vaux => vaux::write_vaux(block, id, y, q, k),
         Section::Audio => {
-            audio::write_audio(block, id, y, h, q, count, sound, macroblocks, time, group, k)
+            audio::write_audio(
+                block,
+                id,
+                y,
+                h,
+                q,
+                count,
+                sound,
+                macroblocks,
+                time,
+                group,
+                k,
+            )
         }
         Section::Video => video::write_video(block, id, y, h, q, macroblocks, k),
     }
