@@ -19,13 +19,12 @@ use Rattle.rules.specs.declared.System.{System}
 use Rattle.rules.specs.declared.Section.{Section}
 use Rattle.rules.specs.declared.Section.the-variants.{Header, Subcode, Vaux, Audio, Video}
 use Rattle.rules.specs.declared.Entry.{Entry}
-use Rattle.rules.specs.declared.BlockId.{BlockId}
 use Rattle.rules.specs.declared.Pack.{Pack}
 use Rattle.rules.specs.declared.Carried.{Carried}
 use Rattle.rules.specs.declared.Carried.the-variants.{Macroblock, Nothing}
 use Rattle.rules.specs.Systems.{sequencesOf, halfOf, positionsOf, macroblocksOf}
 use Rattle.rules.specs.Places.{place, block, entryAt, placeIn, blocksOf}
-use Rattle.rules.specs.Ids.{idBytes, idAt}
+use Rattle.rules.specs.Ids.{idBytes, idOf, idAt}
 use Rattle.rules.specs.Blocks.{startOf, blockAt}
 use Rattle.rules.specs.Packs.{packIn, packBytes}
 use Rattle.rules.specs.Header.{headerBytes}
@@ -122,15 +121,13 @@ frame-faultless y l =
 
 -- ---- payload: the block of a section is its ID and its 77 bytes
 
-abbrev pub named : ℕ → ℕ → Section → ℕ → BlockId
-named h q s k = record { section = s; channel = h; dseq = q; dbn = record { 0 = k } }
+pub block-entry : (y : System) (l : Lent) (h q : ℕ) (s : Section) (k : ℕ) → k < blocksOf s → writtenBlock y l h q (placeIn s k) ≡ idBytes (idOf h q s k) ++ payload y l h q s k
+unfolding writtenBlock entryBlock
+block-entry y l h q s k hk = ap (entryBlock y l h q) (entry-place-in s k hk)
 
 module _ (y : System) (l : Lent) (h q : ℕ) (s : Section) (k : ℕ) (hh : h < 4) (hq : q < sequencesOf y) (hk : k < blocksOf s) where
-  pub frame-entry : blockAt y (writtenFrame y l) h q (placeIn s k) ≡ idBytes (named h q s k) ++ payload y l h q s k
-  unfolding writtenBlock entryBlock
-  frame-entry =
-      frame-block y l h q (placeIn s k) hh hq (place-in-below s k hk)
-      ∙ ap (entryBlock y l h q) (entry-place-in s k hk)
+  pub frame-entry : blockAt y (writtenFrame y l) h q (placeIn s k) ≡ idBytes (idOf h q s k) ++ payload y l h q s k
+  frame-entry = frame-block y l h q (placeIn s k) hh hq (place-in-below s k hk) ∙ block-entry y l h q s k hk
 
   pub frame-payload : drop 3 (blockAt y (writtenFrame y l) h q (placeIn s k)) ≡ payload y l h q s k
   unfolding idBytes
@@ -140,12 +137,12 @@ module _ (y : System) (l : Lent) (h q : ℕ) (s : Section) (k : ℕ) (hh : h < 4
 
 -- byte i of word w of an audio block
 audio-byte : (y : System) (l : Lent) (h q a w i : ℕ) → w < 36 → i < 2
-    → getD (idBytes (named h q Audio a) ++ payload y l h q Audio a) (8 + (w * 2 + i)) 0 ≡ getD (wordBytes y l h q a w) i 0
+    → getD (idBytes (idOf h q Audio a) ++ payload y l h q Audio a) (8 + (w * 2 + i)) 0 ≡ getD (wordBytes y l h q a w) i 0
 unfolding idBytes payload audioBytes
 audio-byte y l h q a w i hw hi =
     let pack : List ℕ = packBytes (aauxPack y (l .count) (audioAt (halfOf y) h q) q a) in
     let words : List ℕ = run (wordBytes y l h q a) 36 in
-    let id : List ℕ = idBytes (named h q Audio a) in
+    let id : List ℕ = idBytes (idOf h q Audio a) in
     let e : 8 + (w * 2 + i) ≡ length id + (length pack + (w * 2 + i)) = omega arith in
     ap (λ (j : ℕ). getD (id ++ (pack ++ words)) j 0) e
     ∙ getD-append-add id (pack ++ words) (length pack + (w * 2 + i)) 0
@@ -175,7 +172,7 @@ module _ (y : System) (l : Lent) (c t : ℕ) (c1 : 0 < c) (c8 : c < 9) (ht : t <
   abbrev pub soundBlock : List ℕ
   soundBlock = blockAt y (writtenFrame y l) (difOf c) q (sound.placeOf (halfOf y) t)
 
-  block-is : soundBlock ≡ idBytes (named (difOf c) q Audio (audioOf (halfOf y) t)) ++ payload y l (difOf c) q Audio (audioOf (halfOf y) t)
+  block-is : soundBlock ≡ idBytes (idOf (difOf c) q Audio (audioOf (halfOf y) t)) ++ payload y l (difOf c) q Audio (audioOf (halfOf y) t)
   block-is = frame-entry y l (difOf c) q Audio (audioOf (halfOf y) t) dif-below sequence-in (audio-below (halfOf y) half t)
 
   pub sound-names : faultAt soundBlock (difOf c) q (sound.placeOf (halfOf y) t) ≡ 0

@@ -4,6 +4,7 @@ use Prim.Native.Nat.{ℕ, _+_, _*_, _-_, _/_, _%_}
 use lib.Dec.{ltb, eqb}
 use lib.ListN.{length, getD, take}
 use Rattle.base.specs.Pick.{pick}
+use Rattle.rules.specs.declared.Section.{Section}
 use Rattle.rules.specs.declared.BlockNumber.{BlockNumber}
 use Rattle.rules.specs.declared.Place.{Place}
 use Rattle.rules.specs.declared.BlockId.{BlockId}
@@ -88,6 +89,10 @@ byte2Of b = b .dbn .0 % 256
 
 unfoldable pub idBytes : BlockId → List ℕ
 idBytes b = byte0Of b ∷ byte1Of b ∷ byte2Of b ∷ []
+
+-- the ID of block k of a section, in sequence q of DIF channel h
+abbrev pub idOf : ℕ → ℕ → Section → ℕ → BlockId
+idOf h q section k = record { section = section; channel = h; dseq = q; dbn = record { 0 = k } }
 
 -- the ID of the block at place p of sequence q of DIF channel h
 unfoldable pub idAt : ℕ → ℕ → Place → BlockId

@@ -14,7 +14,7 @@ use Rattle.rules.specs.declared.Carried.{Carried}
 use Rattle.rules.specs.declared.Carried.the-variants.{Macroblock, Nothing}
 use Rattle.rules.specs.Systems.{sequencesOf, halfOf}
 use Rattle.rules.specs.Places.{place, entryAt}
-use Rattle.rules.specs.Ids.{idBytes, idAt}
+use Rattle.rules.specs.Ids.{idBytes, idOf}
 use Rattle.rules.specs.Packs.{packBytes}
 use Rattle.rules.specs.Header.{headerBytes}
 use Rattle.rules.specs.TimeCode.{timePack, groupPack}
@@ -66,7 +66,7 @@ payload y l h q Video v = videoBytes y l h q v
 
 -- the block of entry e
 unfoldable pub entryBlock : System → Lent → ℕ → ℕ → Entry → List ℕ
-entryBlock y l h q e = idBytes (record { section = e .section; channel = h; dseq = q; dbn = e .number }) ++ payload y l h q (e .section) (e .number .0)
+entryBlock y l h q e = idBytes (idOf h q (e .section) (e .number .0)) ++ payload y l h q (e .section) (e .number .0)
 
 unfoldable pub writtenBlock : System → Lent → ℕ → ℕ → ℕ → List ℕ
 writtenBlock y l h q p = entryBlock y l h q (entryAt (place p))

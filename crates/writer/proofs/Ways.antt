@@ -295,11 +295,14 @@ copy-turn s d xs i e n m h =
     let hd : 0 + i < length d = omega arith in
     rw (e, add-one) (simp zero-add at (paste-suc d 0 s i 0 hd hs))
 
-pub copy-done : (s d xs : List ℕ) (i : ℕ) → xs ≡ take i s ++ drop i d → length s ≡ 77 → length d ≡ 77 → i ≤ 77 → 77 ≤ i → xs ≡ s
+pub copy-next : (s d xs : List ℕ) (i : ℕ) → xs ≡ take i s ++ drop i d → length s ≡ 77 → length d ≡ 77 → i < 76 → set xs i (getD s i 0) ≡ take (i + 1) s ++ drop (i + 1) d
+copy-next s d xs i e n m h = copy-turn s d xs i e n m (omega arith)
+
+pub copy-done : (s d xs : List ℕ) (i : ℕ) → xs ≡ take i s ++ drop i d → length s ≡ 77 → length d ≡ 77 → i ≤ 76 → 76 ≤ i → set xs 76 (getD s 76 0) ≡ s
 copy-done s d xs i e n m le ge =
-    let same : i ≡ 77 = le-antisymm le ge in
+    let same : i ≡ 76 = le-antisymm le ge in
     let all : take 77 s ≡ s = take-all 77 s (omega arith) in
-    e ∙ rw (same, all, none-left 77 d m) (append-nil s)
+    copy-turn s d xs 76 (e ∙ rw same refl) n m (omega arith) ∙ rw (all, none-left 77 d m) (append-nil s)
 
 module _ (xs : List ℕ) (y : System) (h q v : ℕ) (macroblocks : List ℕ) (asked : VideoAsked xs y macroblocks) (r : Carried) (er : r ≡ carriedIn y (slot h q v)) where
   -- the macroblock that is carried is within those that are lent

@@ -1,18 +1,19 @@
 -- Each way out of the writers of a block, a sequence, a DIF channel and the frame, and of the call. Assumes nothing.
-use mathlib.Core.Path.{_≡_, refl, sym, ap, _∙_, subst}
+use mathlib.Core.Path.{_≡_, refl, sym, ap, ap₂, _∙_}
 use mathlib.Core.Bool.{Bool, true, false, not, _&&_}
-use mathlib.Core.List.{List, _++_}
-use Prim.Native.Nat.{ℕ, _+_, _-_, _*_, _≤_, _<_}
-use native.Mathlib.Nat.{mul-le-mul-right}
+use mathlib.Core.List.{List, [], _++_, append-nil, append-assoc}
+use Prim.Native.Nat.{ℕ, _+_, _-_, _*_, _/_, _%_, _≤_, _<_}
 use native.Mathlib.Omega.{arith}
 use lib.Dec.{eqb, ltb}
 use lib.IntN.{ℤ}
-use lib.ListN.{length, take, drop, getD}
+use lib.ListN.{length, take, drop, drop-of-length-le, length-append}
+use lib.Seq.{take-at, drop-at, drop-drop}
 use mir.Syntax.{w64}
 use mir.Val.{Fits}
 use borrow.Author.Tests.{not-true, not-false}
-use borrow.Rule.Slice.PartMut.{putMid}
-use Rattle.base.proofs.Runs.{end-within}
+use borrow.Rule.Slice.PartMut.{putMid, postOf}
+use Rattle.base.specs.Run.{run, Wide}
+use Rattle.base.proofs.Runs.{end-within, run-same, run-split, run-rows, length-run}
 use Rattle.base.proofs.Filling.{Filled, filled-none, filled-next, filled-end}
 use Rattle.base.proofs.Parts.{length-part, range-part}
 use Rattle.rules.specs.declared.System.{System}
@@ -20,13 +21,11 @@ use Rattle.rules.specs.declared.SystemNumber.{SystemNumber}
 use Rattle.rules.specs.declared.SystemNumber.the-variants.{Known, NoSystem}
 use Rattle.rules.specs.declared.Section.{Section}
 use Rattle.rules.specs.declared.Section.the-variants.{Header, Subcode, Vaux, Audio, Video}
-use Rattle.rules.specs.declared.Entry.{Entry}
 use Rattle.rules.specs.declared.BlockId.{BlockId}
 use Rattle.rules.specs.declared.Pack.{Pack}
 use Rattle.rules.specs.Systems.{sequencesOf, halfOf, isCount, systemOf}
-use Rattle.rules.specs.Places.{place, entryAt, blocksOf}
-use Rattle.rules.specs.Ids.{idBytes}
-use Rattle.rules.specs.Judging.{printed, printedPlaces, entryOf}
+use Rattle.rules.specs.Places.{placeIn}
+use Rattle.rules.specs.Ids.{idBytes, idOf}
 use Rattle.rules.specs.Packs.{packOf}
 use Rattle.rules.specs.Header.{headerBytes}
 use Rattle.rules.specs.TimeCode.{timePack, groupPack, timeTaken}
@@ -34,89 +33,206 @@ use Rattle.rules.specs.Subcode.{subcodeBytes}
 use Rattle.rules.specs.Vaux.{vauxBytes}
 use Rattle.rules.specs.Samples.{allInRange}
 use Rattle.rules.specs.Picture.{slot, carriedIn}
-use Rattle.rules.specs.Written.{Lent, audioBytes, carriedBytes, videoBytes, payload, entryBlock, writtenBlock, writtenSequence, writtenChannel, writtenFrame}
+use Rattle.rules.specs.Written.{Lent, audioBytes, carriedBytes, videoBytes, payload, writtenBlock, writtenSequence, writtenChannel, writtenFrame}
 use Rattle.rules.specs.Write.{lent, lengthsOk, writeNumber, Wrote}
 use Rattle.rules.proofs.Systems.{sequences-le}
-use Rattle.rules.proofs.Places.{entry-number-below, printed-at, entry-printed}
-use Rattle.rules.proofs.Written.{block-wide, sequence-wide, channel-wide}
+use Rattle.rules.proofs.Written.{block-entry, block-wide, sequence-wide, channel-wide}
 use Rattle.rules.proofs.Write.{write-1, write-2, write-3, write-4, write-31, write-32, write-0, taken-takes, write-none, write-done}
-use Rattle.writer.specs.Asked.{NumberAsked, AudioAsked, Lengths, BlockAsked, SequenceAsked, ChannelPartAsked, FrameAsked}
+use Rattle.writer.specs.Asked.{AudioAsked, VideoAsked, PartAsked, RowAsked, ChannelPartAsked, FrameAsked}
+use Rattle.writer.specs.Rows.{subcodeBlocks, headBlocks, vauxBlocks, rowVideo, rowBlocks, allRows}
 
--- ---- the block of an entry
+-- ---- two parts that are lent one after the other
 
-module _ (block : List ℕ) (y : System) (h q : ℕ) (e : Entry) (count : ℕ) (sound : List ℤ) (macroblocks time group : List ℕ)
-    (asked : BlockAsked block y h q e (lent count sound macroblocks time group)) where
-  number-in : (s : Section) → e .section ≡ s → e .number .0 < blocksOf s
-  number-in s es = subst (λ (x : Section). e .number .0 < blocksOf x) es (asked .below)
+two-parts : (n m : ℕ) (zs rs xs : List ℕ) → length zs ≡ n → length xs ≡ n + m → putMid n m (zs ++ postOf 0 n xs) rs ≡ zs ++ rs
+two-parts n m zs rs xs ez ex =
+    let rest : drop m (drop n xs) ≡ [] = drop-drop m n xs ∙ drop-of-length-le xs {i = n + m} (omega (arith, ex)) in
+    rw (take-at zs (drop n xs) n ez, drop-at zs (drop n xs) n ez, rest, append-nil) refl
 
-  pub subcode-asked : e .section ≡ Subcode → NumberAsked block (e .number .0) 2
-  subcode-asked es = record { long = asked .long; below = number-in Subcode es }
+three-parts : (zs vs rs xs : List ℕ) → length zs ≡ 240 → length vs ≡ 240 → length xs ≡ 12000
+    → putMid 480 11520 (putMid 240 240 (zs ++ postOf 0 240 xs) vs) rs ≡ zs ++ (vs ++ rs)
+three-parts zs vs rs xs ez ev ex =
+    let far : drop 240 (drop 240 xs) ≡ drop 480 xs = drop-drop 240 240 xs in
+    let rest : drop 11520 (drop 480 xs) ≡ [] = drop-drop 11520 480 xs ∙ drop-of-length-le xs {i = 12000} (omega (arith, ex)) in
+    let both : length (zs ++ vs) ≡ 480 = length-append zs vs ∙ omega arith in
+    let two : putMid 240 240 (zs ++ postOf 0 240 xs) vs ≡ (zs ++ vs) ++ drop 480 xs =
+    rw (take-at zs (drop 240 xs) 240 ez, drop-at zs (drop 240 xs) 240 ez, far) (sym (append-assoc zs vs (drop 480 xs))) in
+    ap (λ (b : List ℕ). putMid 480 11520 b rs) two
+    ∙ rw (take-at (zs ++ vs) (drop 480 xs) 480 both, drop-at (zs ++ vs) (drop 480 xs) 480 both, rest, append-nil) (append-assoc zs vs rs)
 
-  pub vaux-asked : e .section ≡ Vaux → NumberAsked block (e .number .0) 3
-  vaux-asked es = record { long = asked .long; below = number-in Vaux es }
+step : (a j : ℕ) → 6 + 16 * a + (1 + j) ≡ 7 + 16 * a + j
+step a j = omega arith
 
-  pub audio-asked : e .section ≡ Audio → AudioAsked block y h q count sound (e .number .0)
-  audio-asked es = record {
-    long = asked .long;
-    channel = asked .channel;
-    sequence = asked .sequence;
-    counts = asked .lengths .counts;
-    sounds = asked .lengths .sounds;
-    below = number-in Audio es;
-  }
+row-place : (k : ℕ) → 3 + (3 + k) ≡ 6 + 16 * (k / 16) + k % 16
+row-place k = omega arith
 
-module _ (y : System) (h q : ℕ) (e : Entry) (count : ℕ) (sound : List ℤ) (macroblocks time group zs : List ℕ) where
-  abbrev id : BlockId
-  id = record { section = e .section; channel = h; dseq = q; dbn = e .number }
+head-long : (y : System) (l : Lent) (h q : ℕ) → length (headBlocks y l h q) ≡ 240
+unfolding headBlocks
+head-long y l h q = length-run 80 (writtenBlock y l h q) (block-wide y l h q) 3
 
-  pub header-block : e .section ≡ Header → zs ≡ idBytes id ++ headerBytes y → zs ≡ entryBlock y (lent count sound macroblocks time group) h q e
-  unfolding entryBlock payload
-  header-block es ez = ez ∙ rw es refl
+vaux-long : (y : System) (l : Lent) (h q : ℕ) → length (vauxBlocks y l h q) ≡ 240
+unfolding vauxBlocks
+vaux-long y l h q = length-run 80 (λ (k : ℕ). writtenBlock y l h q (3 + k)) (λ k. block-wide y l h q (3 + k)) 3
 
-  pub subcode-block : (s : ℕ) → e .section ≡ Subcode → s ≡ halfOf y → zs ≡ idBytes id ++ subcodeBytes (ltb q s) (timePack time) (groupPack group) (e .number .0)
-      → zs ≡ entryBlock y (lent count sound macroblocks time group) h q e
-  unfolding entryBlock payload
-  subcode-block s es eh ez = ez ∙ rw (es, eh) refl
+-- ---- a block where it stands, by what its section's writer left
 
-  pub vaux-block : e .section ≡ Vaux → zs ≡ idBytes id ++ vauxBytes y q (e .number .0) → zs ≡ entryBlock y (lent count sound macroblocks time group) h q e
-  unfolding entryBlock payload
-  vaux-block es ez = ez ∙ rw es refl
+module _ (y : System) (h q count : ℕ) (sound : List ℤ) (macroblocks time group : List ℕ) where
+  abbrev l : Lent
+  l = lent count sound macroblocks time group
 
-  pub audio-block : e .section ≡ Audio → zs ≡ idBytes id ++ audioBytes y (lent count sound macroblocks time group) h q (e .number .0)
-      → zs ≡ entryBlock y (lent count sound macroblocks time group) h q e
-  unfolding entryBlock payload
-  audio-block es ez = ez ∙ rw es refl
+  module _ (zs : List ℕ) (i : BlockId) where
+    header-at : i ≡ idOf h q Header 0 → zs ≡ idBytes i ++ headerBytes y → zs ≡ writtenBlock y l h q 0
+    unfolding payload
+    header-at ei ez = ez ∙ rw ei (sym (block-entry y l h q Header 0 (omega arith)))
 
-  pub video-block : e .section ≡ Video → zs ≡ idBytes id ++ carriedBytes macroblocks (carriedIn y (slot h q (e .number .0)))
-      → zs ≡ entryBlock y (lent count sound macroblocks time group) h q e
-  unfolding entryBlock payload videoBytes
-  video-block es ez = ez ∙ rw es refl
+    subcode-at : (k s : ℕ) → k < 2 → s ≡ halfOf y → i ≡ idOf h q Subcode k → zs ≡ idBytes i ++ subcodeBytes (ltb q s) (timePack time) (groupPack group) k → zs ≡ writtenBlock y l h q (1 + k)
+    unfolding payload
+    subcode-at k s hk es ei ez = ez ∙ rw (ei, es) (sym (block-entry y l h q Subcode k hk))
 
--- ---- a sequence
+    vaux-at : (k : ℕ) → k < 3 → i ≡ idOf h q Vaux k → zs ≡ idBytes i ++ vauxBytes y q k → zs ≡ writtenBlock y l h q (3 + k)
+    unfolding payload
+    vaux-at k hk ei ez = ez ∙ rw ei (sym (block-entry y l h q Vaux k hk))
 
--- what the printed table says at p is the entry there
-module _ (table : List ℕ) (p : ℕ) (e : Entry) (et : table ≡ printedPlaces) (hp : p < 150) (ee : e ≡ entryOf (getD table p 0)) where
-  entry-is : e ≡ entryAt (place p)
-  entry-is = ee ∙ rw (et, printed-at p hp) (entry-printed (entryAt (place p)))
+    audio-at : (a : ℕ) → a < 9 → i ≡ idOf h q Audio a → zs ≡ idBytes i ++ audioBytes y l h q a → zs ≡ writtenBlock y l h q (6 + 16 * a)
+    unfolding payload
+    audio-at a ha ei ez = ez ∙ rw ei (sym (block-entry y l h q Audio a ha))
 
-  pub block-asked : (part xs : List ℕ) (y : System) (h q : ℕ) (l : Lent) → SequenceAsked part y h q l → length xs ≡ length part
-      → BlockAsked (take (p * 80 + 80 - p * 80) (drop (p * 80) xs)) y h q e l
-  block-asked part xs y h q l a n = record {
-    long = ap length (range-part (p * 80) 80 xs) ∙ length-part (p * 80) 80 xs (omega (arith, n, a .long));
-    channel = a .channel;
-    sequence = a .sequence;
-    below = rw entry-is (entry-number-below p hp);
-    lengths = a .lengths;
-  }
+    video-at : (a j : ℕ) → a < 9 → j < 15 → i ≡ idOf h q Video (15 * a + j) → zs ≡ idBytes i ++ carriedBytes macroblocks (carriedIn y (slot h q (15 * a + j)))
+        → zs ≡ writtenBlock y l h q (7 + 16 * a + j)
+    unfolding payload videoBytes
+    video-at a j ha hj ei ez =
+        let v : 15 * a + j < 135 = omega arith in
+        let p : placeIn Video (15 * a + j) ≡ 7 + 16 * a + j = omega arith in
+        ez ∙ rw ei (sym (block-entry y l h q Video (15 * a + j) v)) ∙ ap (writtenBlock y l h q) p
 
-  pub sequence-turn : (y : System) (h q : ℕ) (l : Lent) (d xs ys : List ℕ) → Filled 80 (writtenBlock y l h q) p d xs → ys ≡ entryBlock y l h q e
-      → Filled 80 (writtenBlock y l h q) (p + 1) d (putMid (p * 80) (p * 80 + 80 - p * 80) xs ys)
-  unfolding writtenBlock
-  sequence-turn y h q l d xs ys ex ey = filled-next 80 (writtenBlock y l h q) (block-wide y l h q) p d xs ys ex (ey ∙ ap (entryBlock y l h q) entry-is)
+  -- ---- H0, SC0, SC1; VA0, VA1, VA2
 
-pub sequence-done : (y : System) (h q p : ℕ) (l : Lent) (d xs : List ℕ) → Filled 80 (writtenBlock y l h q) p d xs → length d ≡ 12000 → p ≤ 150 → 150 ≤ p → xs ≡ writtenSequence y l h q
-unfolding writtenSequence
-sequence-done y h q p l d xs ex n le ge = filled-end 80 (writtenBlock y l h q) p 150 d xs ex n le ge
+  abbrev pub subcode-in : ℕ → List ℕ
+  subcode-in k = writtenBlock y l h q (1 + k)
+
+  module _ (d xs : List ℕ) (asked : PartAsked d 160 y h q l) (k : ℕ) (ex : Filled 80 subcode-in k d xs) where
+    pub subcodes-turn : (ys : List ℕ) (i : BlockId) (s : ℕ) → k < 2 → s ≡ halfOf y → i ≡ idOf h q Subcode k
+        → ys ≡ idBytes i ++ subcodeBytes (ltb q s) (timePack time) (groupPack group) k → Filled 80 subcode-in (k + 1) d (putMid (k * 80) (k * 80 + 80 - k * 80) xs ys)
+    subcodes-turn ys i s hk es ei ey = filled-next 80 subcode-in (λ j. block-wide y l h q (1 + j)) k d xs ys ex (subcode-at ys i k s hk es ei ey)
+
+    pub subcodes-done : k ≤ 2 → 2 ≤ k → xs ≡ subcodeBlocks y l h q
+    unfolding subcodeBlocks
+    subcodes-done le ge = filled-end 80 subcode-in k 2 d xs ex (asked .long) le ge
+
+  pub head-done : (xs zs ss : List ℕ) (i : BlockId) → PartAsked xs 240 y h q l → i ≡ idOf h q Header 0 → zs ≡ idBytes i ++ headerBytes y → ss ≡ subcodeBlocks y l h q
+      → putMid 80 160 (zs ++ postOf 0 80 xs) ss ≡ headBlocks y l h q
+  unfolding headBlocks subcodeBlocks run
+  head-done xs zs ss i asked ei ez es =
+      let eh : zs ≡ writtenBlock y l h q 0 = header-at zs i ei ez in
+      two-parts 80 160 zs ss xs (ap length eh ∙ block-wide y l h q 0) (asked .long) ∙ rw (eh, es) (sym (run-split (writtenBlock y l h q) 1 2))
+
+  abbrev pub vaux-in : ℕ → List ℕ
+  vaux-in k = writtenBlock y l h q (3 + k)
+
+  module _ (d xs : List ℕ) (asked : PartAsked d 240 y h q l) (k : ℕ) (ex : Filled 80 vaux-in k d xs) where
+    pub vauxes-turn : (ys : List ℕ) (i : BlockId) → k < 3 → i ≡ idOf h q Vaux k → ys ≡ idBytes i ++ vauxBytes y q k
+        → Filled 80 vaux-in (k + 1) d (putMid (k * 80) (k * 80 + 80 - k * 80) xs ys)
+    vauxes-turn ys i hk ei ey = filled-next 80 vaux-in (λ j. block-wide y l h q (3 + j)) k d xs ys ex (vaux-at ys i k hk ei ey)
+
+    pub vauxes-done : k ≤ 3 → 3 ≤ k → xs ≡ vauxBlocks y l h q
+    unfolding vauxBlocks
+    vauxes-done le ge = filled-end 80 vaux-in k 3 d xs ex (asked .long) le ge
+
+  -- ---- a row
+
+  module _ (a : ℕ) where
+    abbrev pub video-in : ℕ → List ℕ
+    video-in j = writtenBlock y l h q (7 + 16 * a + j)
+
+    module _ (d xs : List ℕ) (asked : RowAsked d 1200 y h q a l) where
+      pub video-asked : (j : ℕ) → j < 15 → length xs ≡ length d → VideoAsked (take (j * 80 + 80 - j * 80) (drop (j * 80) xs)) y macroblocks
+      video-asked j hj same = record {
+        long = ap length (range-part (j * 80) 80 xs) ∙ length-part (j * 80) 80 xs (omega (arith, same, asked .whole .long));
+        pictures = asked .whole .lengths .pictures;
+      }
+
+      module _ (j : ℕ) (ex : Filled 80 video-in j d xs) where
+        pub videos-turn : (ys : List ℕ) (i : BlockId) → j < 15 → i ≡ idOf h q Video (15 * a + j) → ys ≡ idBytes i ++ carriedBytes macroblocks (carriedIn y (slot h q (15 * a + j)))
+            → Filled 80 video-in (j + 1) d (putMid (j * 80) (j * 80 + 80 - j * 80) xs ys)
+        videos-turn ys i hj ei ey = filled-next 80 video-in (λ k. block-wide y l h q (7 + 16 * a + k)) j d xs ys ex (video-at ys i a j (asked .row) hj ei ey)
+
+        pub videos-done : j ≤ 15 → 15 ≤ j → xs ≡ rowVideo y l h q a
+        unfolding rowVideo
+        videos-done le ge = filled-end 80 video-in j 15 d xs ex (asked .whole .long) le ge
+
+    row-parts : rowBlocks y l h q a ≡ writtenBlock y l h q (6 + 16 * a) ++ rowVideo y l h q a
+    unfolding rowBlocks rowVideo run
+    row-parts =
+        let first : 6 + 16 * a + 0 ≡ 6 + 16 * a = omega arith in
+        let next : (j : ℕ) → j < 15 → writtenBlock y l h q (6 + 16 * a + (1 + j)) ≡ writtenBlock y l h q (7 + 16 * a + j) =
+        λ j _. ap (writtenBlock y l h q) (step a j) in
+        run-split (λ (j : ℕ). writtenBlock y l h q (6 + 16 * a + j)) 1 15
+        ∙ ap₂ _++_ (ap (writtenBlock y l h q) first) (run-same (λ (j : ℕ). writtenBlock y l h q (6 + 16 * a + (1 + j))) (λ (j : ℕ). writtenBlock y l h q (7 + 16 * a + j)) 15 next)
+
+    pub row-done : (xs zs vs : List ℕ) (i : BlockId) → RowAsked xs 1280 y h q a l → i ≡ idOf h q Audio a → zs ≡ idBytes i ++ audioBytes y l h q a → vs ≡ rowVideo y l h q a
+        → putMid 80 1200 (zs ++ postOf 0 80 xs) vs ≡ rowBlocks y l h q a
+    row-done xs zs vs i asked ei ez ev =
+        let ea : zs ≡ writtenBlock y l h q (6 + 16 * a) = audio-at zs i a (asked .row) ei ez in
+        two-parts 80 1200 zs vs xs (ap length ea ∙ block-wide y l h q (6 + 16 * a)) (asked .whole .long) ∙ rw (ea, ev) (sym row-parts)
+
+  -- ---- the rows, and the sequence
+
+  row-wide : Wide 1280 (rowBlocks y l h q)
+  unfolding rowBlocks
+  row-wide a = length-run 80 (λ (j : ℕ). writtenBlock y l h q (6 + 16 * a + j)) (λ j. block-wide y l h q (6 + 16 * a + j)) 16
+
+  module _ (d xs : List ℕ) (asked : PartAsked d 11520 y h q l) (a : ℕ) where
+    pub row-asked : a < 9 → length xs ≡ length d → RowAsked (take (a * 1280 + 1280 - a * 1280) (drop (a * 1280) xs)) 1280 y h q a l
+    row-asked ha same = record {
+      whole = record {
+        long = ap length (range-part (a * 1280) 1280 xs) ∙ length-part (a * 1280) 1280 xs (omega (arith, same, asked .long));
+        channel = asked .channel;
+        sequence = asked .sequence;
+        lengths = asked .lengths;
+      };
+      row = ha;
+    }
+
+    module _ (ex : Filled 1280 (rowBlocks y l h q) a d xs) where
+      pub rows-turn : (ys : List ℕ) → ys ≡ rowBlocks y l h q a → Filled 1280 (rowBlocks y l h q) (a + 1) d (putMid (a * 1280) (a * 1280 + 1280 - a * 1280) xs ys)
+      rows-turn ys ey = filled-next 1280 (rowBlocks y l h q) row-wide a d xs ys ex ey
+
+      pub rows-done : a ≤ 9 → 9 ≤ a → xs ≡ allRows y l h q
+      unfolding allRows
+      rows-done le ge = filled-end 1280 (rowBlocks y l h q) a 9 d xs ex (asked .long) le ge
+
+  sequence-parts : writtenSequence y l h q ≡ headBlocks y l h q ++ (vauxBlocks y l h q ++ allRows y l h q)
+  unfolding writtenSequence headBlocks vauxBlocks allRows rowBlocks
+  sequence-parts =
+      let f : ℕ → List ℕ = writtenBlock y l h q in
+      run-split f 3 147
+      ∙ ap (λ (b : List ℕ). run f 3 ++ b)
+      (run-split (λ (k : ℕ). f (3 + k)) 3 144
+      ∙ ap (λ (b : List ℕ). run (λ (k : ℕ). f (3 + k)) 3 ++ b)
+      (run-same (λ (k : ℕ). f (3 + (3 + k))) (λ (k : ℕ). f (6 + 16 * (k / 16) + k % 16)) 144 (λ k _. ap f (row-place k))
+      ∙ run-rows (λ (a j : ℕ). f (6 + 16 * a + j)) 16 9 (omega arith)))
+
+  pub sequence-done : (xs zs vs rs : List ℕ) → PartAsked xs 12000 y h q l → zs ≡ headBlocks y l h q → vs ≡ vauxBlocks y l h q → rs ≡ allRows y l h q
+      → putMid 480 11520 (putMid 240 240 (zs ++ postOf 0 240 xs) vs) rs ≡ writtenSequence y l h q
+  sequence-done xs zs vs rs asked ez ev er =
+      three-parts zs vs rs xs (ap length ez ∙ head-long y l h q) (ap length ev ∙ vaux-long y l h q) (asked .long) ∙ rw (ez, ev, er) (sym sequence-parts)
+
+-- what is asked of a part is asked of a part of it
+pub smaller-asked : (part block : List ℕ) (m n : ℕ) (y : System) (h q : ℕ) (l : Lent) → PartAsked part m y h q l → length block ≡ n → PartAsked block n y h q l
+smaller-asked part block m n y h q l a e = record { long = e; channel = a .channel; sequence = a .sequence; lengths = a .lengths }
+
+pub smaller-row-asked : (part block : List ℕ) (m n : ℕ) (y : System) (h q a : ℕ) (l : Lent) → RowAsked part m y h q a l → length block ≡ n → RowAsked block n y h q a l
+smaller-row-asked part block m n y h q a l r e = record { whole = smaller-asked part block m n y h q l (r .whole) e; row = r .row }
+
+pub audio-asked : (part block : List ℕ) (n : ℕ) (y : System) (h q a count : ℕ) (sound : List ℤ) (macroblocks time group : List ℕ)
+    → RowAsked part n y h q a (lent count sound macroblocks time group) → length block ≡ 80 → AudioAsked block y h q count sound a
+audio-asked part block n y h q a count sound macroblocks time group r e = record {
+  long = e;
+  channel = r .whole .channel;
+  sequence = r .whole .sequence;
+  counts = r .whole .lengths .counts;
+  sounds = r .whole .lengths .sounds;
+  below = r .row;
+}
 
 -- ---- a DIF channel
 
@@ -137,7 +253,7 @@ module _ (y : System) (q n : ℕ) (en : n ≡ sequencesOf y) (hq : q < n) where
   sequence-next = omega arith
 
   pub sequence-asked : (part xs : List ℕ) (h : ℕ) (l : Lent) → ChannelPartAsked part y h l → length xs ≡ length part
-      → SequenceAsked (take (q * 12000 + 12000 - q * 12000) (drop (q * 12000) xs)) y h q l
+      → PartAsked (take (q * 12000 + 12000 - q * 12000) (drop (q * 12000) xs)) 12000 y h q l
   sequence-asked part xs h l a same = record {
     long = ap length (range-part (q * 12000) 12000 xs) ∙ length-part (q * 12000) 12000 xs (omega (arith, same, a .long, end-within 12000 q (sequencesOf y) sequence-in));
     channel = a .channel;

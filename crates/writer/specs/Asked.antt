@@ -7,9 +7,7 @@ use Prim.Native.Nat.{ℕ, _*_, _≤_, _<_}
 use lib.IntN.{ℤ}
 use lib.ListN.{length}
 use Rattle.rules.specs.declared.System.{System}
-use Rattle.rules.specs.declared.Entry.{Entry}
 use Rattle.rules.specs.Systems.{sequencesOf, isCount, macroblocksOf}
-use Rattle.rules.specs.Places.{blocksOf}
 use Rattle.rules.specs.Written.{Lent}
 
 pub record WordAsked (part : List ℕ) (word : ℕ) : Type 0 where
@@ -73,18 +71,17 @@ pub record Lengths (y : System) (l : Lent) : Type 0 where
   pub sounds : length (l .sound) ≡ 8 * l .count
   pub pictures : length (l .macroblocks) ≡ 77 * macroblocksOf y
 
-pub record BlockAsked (block : List ℕ) (y : System) (h q : ℕ) (e : Entry) (l : Lent) : Type 0 where
-  pub long : length block ≡ 80
+-- a part of so many bytes of sequence q of DIF channel h
+pub record PartAsked (part : List ℕ) (size : ℕ) (y : System) (h q : ℕ) (l : Lent) : Type 0 where
+  pub long : length part ≡ size
   pub channel : h < 4
   pub sequence : q < sequencesOf y
-  pub below : e .number .0 < blocksOf (e .section)
   pub lengths : Lengths y l
 
-pub record SequenceAsked (part : List ℕ) (y : System) (h q : ℕ) (l : Lent) : Type 0 where
-  pub long : length part ≡ 12000
-  pub channel : h < 4
-  pub sequence : q < sequencesOf y
-  pub lengths : Lengths y l
+-- and of row a
+pub record RowAsked (part : List ℕ) (size : ℕ) (y : System) (h q a : ℕ) (l : Lent) : Type 0 where
+  pub whole : PartAsked part size y h q l
+  pub row : a < 9
 
 pub record ChannelPartAsked (part : List ℕ) (y : System) (h : ℕ) (l : Lent) : Type 0 where
   pub long : length part ≡ sequencesOf y * 12000

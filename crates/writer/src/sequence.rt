@@ -1,68 +1,226 @@
-// The 150 blocks of a sequence.
+// The 150 blocks of a sequence: H0, SC0, SC1; VA0 to VA2; then nine rows of an audio block and fifteen video blocks.
 ghost use mathlib.Core.Path.{_≡_};
 ghost use lib.ListN.{length};
-ghost use Rattle.rules.specs.Written.{entryBlock, writtenSequence};
+ghost use Rattle.rules.specs.Ids.{idOf};
+ghost use Rattle.rules.specs.Written.{writtenSequence};
 ghost use Rattle.rules.specs.Write.{lent};
-ghost use Rattle.writer.specs.Asked.{BlockAsked, SequenceAsked};
+ghost use Rattle.writer.specs.Asked.{PartAsked, RowAsked};
+ghost use Rattle.writer.specs.Rows.{subcodeBlocks, headBlocks, vauxBlocks, rowVideo, rowBlocks, allRows};
 use crate::audio;
 use crate::header;
 use crate::subcode;
 use crate::vaux;
 use crate::video;
 use layout::BLOCK;
-use layout::PLACES;
 use rules::BlockId;
-use rules::Entry;
+use rules::BlockNumber;
 use rules::Section;
 use rules::System;
 
-// The block of an entry, by its section's own writer.
-fn write_block(
-    block: &mut [u8],
+fn id(h: u32, q: u32, section: Section, number: u32) -> BlockId
+    ensures { λ r. ⌜ r ≡ idOf h q section number ⌝ }
+{
+    BlockId {
+        section: section,
+        channel: h,
+        dseq: q,
+        dbn: BlockNumber(number),
+    }
+}
+
+// SC0, SC1.
+fn write_subcodes(
+    part: &mut [u8],
     y: System,
     h: u32,
     q: u32,
-    e: Entry,
     count: u32,
     sound: &[i32],
     macroblocks: &[u8],
     time: &[u8],
     group: &[u8],
 )
-    requires { ⌜ BlockAsked (now block) y h q e (lent count (now sound) (now macroblocks) (now time) (now group)) ⌝ }
-    ensures { λ _. ⌜ now (block .exit) ≡ entryBlock y (lent count (now (sound .entry)) (now (macroblocks .entry)) (now (time .entry)) (now (group .entry))) h q e ⌝ }
+    requires { ⌜ PartAsked (now part) 160 y h q (lent count (now sound) (now macroblocks) (now time) (now group)) ⌝ }
+    ensures { λ _. ⌜ now (part .exit) ≡ subcodeBlocks y (lent count (now (sound .entry)) (now (macroblocks .entry)) (now (time .entry)) (now (group .entry))) h q ⌝ }
 {
-    let section = e.section;
-    let number = e.number;
-    let k = number.0;
-    let id = BlockId {
-        section: section,
-        channel: h,
-        dseq: q,
-        dbn: number,
-    };
-    match section {
-        Section::Header => header::write_header(block, id, y),
-        Section::Subcode => {
-            subcode::write_subcode(block, id, q < layout::half(y), time, group, k)
-        }
-        Section::Vaux => vaux::write_vaux(block, id, y, q, k),
-        Section::Audio => {
-            audio::write_audio(
-                block,
-                id,
-                y,
-                h,
-                q,
-                count,
-                sound,
-                macroblocks,
-                time,
-                group,
-                k,
-            )
-        }
-        Section::Video => video::write_video(block, id, y, h, q, macroblocks, k),
+    let mut k: u32 = 0;
+    while k < 2 {
+        let at = (k as usize) * BLOCK;
+        let to = at + BLOCK;
+        let early = q < layout::half(y);
+        subcode::write_subcode(
+            &mut part[at..to],
+            id(h, q, Section::Subcode, k),
+            early,
+            time,
+            group,
+            k,
+        );
+        k += 1;
+    }
+}
+
+// H0, SC0, SC1.
+fn write_head(
+    part: &mut [u8],
+    y: System,
+    h: u32,
+    q: u32,
+    count: u32,
+    sound: &[i32],
+    macroblocks: &[u8],
+    time: &[u8],
+    group: &[u8],
+)
+    requires { ⌜ PartAsked (now part) 240 y h q (lent count (now sound) (now macroblocks) (now time) (now group)) ⌝ }
+    ensures { λ _. ⌜ now (part .exit) ≡ headBlocks y (lent count (now (sound .entry)) (now (macroblocks .entry)) (now (time .entry)) (now (group .entry))) h q ⌝ }
+{
+    header::write_header(&mut part[0..80], id(h, q, Section::Header, 0), y);
+    write_subcodes(
+        &mut part[80..240],
+        y,
+        h,
+        q,
+        count,
+        sound,
+        macroblocks,
+        time,
+        group,
+    );
+}
+
+// VA0, VA1, VA2.
+fn write_vauxes(
+    part: &mut [u8],
+    y: System,
+    h: u32,
+    q: u32,
+    count: u32,
+    sound: &[i32],
+    macroblocks: &[u8],
+    time: &[u8],
+    group: &[u8],
+)
+    requires { ⌜ PartAsked (now part) 240 y h q (lent count (now sound) (now macroblocks) (now time) (now group)) ⌝ }
+    ensures { λ _. ⌜ now (part .exit) ≡ vauxBlocks y (lent count (now (sound .entry)) (now (macroblocks .entry)) (now (time .entry)) (now (group .entry))) h q ⌝ }
+{
+    let mut k: u32 = 0;
+    while k < 3 {
+        let at = (k as usize) * BLOCK;
+        let to = at + BLOCK;
+        vaux::write_vaux(&mut part[at..to], id(h, q, Section::Vaux, k), y, q, k);
+        k += 1;
+    }
+}
+
+// The fifteen video blocks of row a.
+fn write_videos(
+    part: &mut [u8],
+    y: System,
+    h: u32,
+    q: u32,
+    a: u32,
+    count: u32,
+    sound: &[i32],
+    macroblocks: &[u8],
+    time: &[u8],
+    group: &[u8],
+)
+    requires { ⌜ RowAsked (now part) 1200 y h q a (lent count (now sound) (now macroblocks) (now time) (now group)) ⌝ }
+    ensures { λ _. ⌜ now (part .exit) ≡ rowVideo y (lent count (now (sound .entry)) (now (macroblocks .entry)) (now (time .entry)) (now (group .entry))) h q a ⌝ }
+{
+    let mut j: u32 = 0;
+    while j < 15 {
+        let at = (j as usize) * BLOCK;
+        let to = at + BLOCK;
+        let v = 15 * a + j;
+        video::write_video(
+            &mut part[at..to],
+            id(h, q, Section::Video, v),
+            y,
+            h,
+            q,
+            macroblocks,
+            v,
+        );
+        j += 1;
+    }
+}
+
+// A(a) and its fifteen video blocks.
+fn write_row(
+    part: &mut [u8],
+    y: System,
+    h: u32,
+    q: u32,
+    a: u32,
+    count: u32,
+    sound: &[i32],
+    macroblocks: &[u8],
+    time: &[u8],
+    group: &[u8],
+)
+    requires { ⌜ RowAsked (now part) 1280 y h q a (lent count (now sound) (now macroblocks) (now time) (now group)) ⌝ }
+    ensures { λ _. ⌜ now (part .exit) ≡ rowBlocks y (lent count (now (sound .entry)) (now (macroblocks .entry)) (now (time .entry)) (now (group .entry))) h q a ⌝ }
+{
+    audio::write_audio(
+        &mut part[0..80],
+        id(h, q, Section::Audio, a),
+        y,
+        h,
+        q,
+        count,
+        sound,
+        macroblocks,
+        time,
+        group,
+        a,
+    );
+    write_videos(
+        &mut part[80..1280],
+        y,
+        h,
+        q,
+        a,
+        count,
+        sound,
+        macroblocks,
+        time,
+        group,
+    );
+}
+
+fn write_rows(
+    part: &mut [u8],
+    y: System,
+    h: u32,
+    q: u32,
+    count: u32,
+    sound: &[i32],
+    macroblocks: &[u8],
+    time: &[u8],
+    group: &[u8],
+)
+    requires { ⌜ PartAsked (now part) 11520 y h q (lent count (now sound) (now macroblocks) (now time) (now group)) ⌝ }
+    ensures { λ _. ⌜ now (part .exit) ≡ allRows y (lent count (now (sound .entry)) (now (macroblocks .entry)) (now (time .entry)) (now (group .entry))) h q ⌝ }
+{
+    let mut a: u32 = 0;
+    while a < 9 {
+        let at = (a as usize) * 1280;
+        let to = at + 1280;
+        write_row(
+            &mut part[at..to],
+            y,
+            h,
+            q,
+            a,
+            count,
+            sound,
+            macroblocks,
+            time,
+            group,
+        );
+        a += 1;
     }
 }
 
@@ -77,26 +235,40 @@ pub(crate) fn write_sequence(
     time: &[u8],
     group: &[u8],
 )
-    requires { ⌜ SequenceAsked (now part) y h q (lent count (now sound) (now macroblocks) (now time) (now group)) ⌝ }
+    requires { ⌜ PartAsked (now part) 12000 y h q (lent count (now sound) (now macroblocks) (now time) (now group)) ⌝ }
     ensures { λ _. ⌜ now (part .exit) ≡ writtenSequence y (lent count (now (sound .entry)) (now (macroblocks .entry)) (now (time .entry)) (now (group .entry))) h q ⌝ }
 {
-    let table = layout::printed_places();
-    let mut p: usize = 0;
-    while p < 150 {
-        let at = p * BLOCK;
-        let to = at + BLOCK;
-        write_block(
-            &mut part[at..to],
-            y,
-            h,
-            q,
-            layout::entry_of(table[p]),
-            count,
-            sound,
-            macroblocks,
-            time,
-            group,
-        );
-        p += 1;
-    }
+    write_head(
+        &mut part[0..240],
+        y,
+        h,
+        q,
+        count,
+        sound,
+        macroblocks,
+        time,
+        group,
+    );
+    write_vauxes(
+        &mut part[240..480],
+        y,
+        h,
+        q,
+        count,
+        sound,
+        macroblocks,
+        time,
+        group,
+    );
+    write_rows(
+        &mut part[480..12000],
+        y,
+        h,
+        q,
+        count,
+        sound,
+        macroblocks,
+        time,
+        group,
+    );
 }

@@ -11,16 +11,17 @@ use rules::BlockId;
 use rules::Carried;
 use rules::System;
 
-// 77 bytes from one part to another; the length is written out, for the sake of the loop.
+// 77 bytes from one part to another. The length is written out and the odd byte stands by itself, for the sake of the loop.
 fn copy_macroblock(part: &mut [u8], from: &[u8])
     requires { ⌜ CopyAsked (now part) (now from) ⌝ }
     ensures { λ _. ⌜ now (part .exit) ≡ now (from .entry) ⌝ }
 {
     let mut i = 0;
-    while i < 77 {
+    while i < 76 {
         part[i] = from[i];
         i += 1;
     }
+    part[76] = from[76];
 }
 
 pub(crate) fn write_video(

@@ -1,89 +1,66 @@
--- `writer::sequence::write_sequence` meets its contract: the first blocks are written, and the rest is as it was. Assumes nothing.
+-- `writer::sequence::write_sequence` meets its contract: three parts, one after the other. Assumes nothing.
+use Rattle.writer.proofs.Whole.{smaller-asked, sequence-done}
 use borrow.Author.Needs.{needs}
-use mathlib.Core.Path.{_≡_, refl}
-use Prim.Native.Nat.{_-_, _≤_}
-use native.Mathlib.Omega.{arith}
-use lib.ListN.{length}
-use Rattle.base.proofs.Filling.{Filled, filled-none}
-use Rattle.rules.specs.Written.{writtenBlock}
-use Rattle.rules.specs.Write.{lent}
-use Rattle.writer.proofs.Whole.{block-asked, sequence-turn, sequence-done}
 use Rattle.writer.proofs.sequence.write_sequence.Statement.{statement}
 use Rattle.writer.proofs.sequence.write_sequence.Tie as tie
 
-abbrev Inv-loop : tie.InvT-loop
-Inv-loop part₀ y h q count sound macroblocks time group table p₀ part p = Filled 80 (writtenBlock y (lent count sound macroblocks time group) h q) p part₀ part × (length part ≡ length part₀) × (p ≤ 150)
+sub-write-head : tie.Need-sub-write-head
+sub-write-head c = search needs
 
-abbrev μ-loop : tie.MeasureT-loop
-μ-loop part₀ y h q count sound macroblocks time group table p₀ part p = 150 - p
+part-write-head-start : tie.Need-part-write-head-start
+part-write-head-start c = search needs
 
-printed-places-requires : tie.Need-printed-places-requires Inv-loop μ-loop
-printed-places-requires c κs = search needs
+part-write-head-end : tie.Need-part-write-head-end
+part-write-head-end c = search needs
 
-loop-holds : tie.Need-loop-holds Inv-loop μ-loop
-loop-holds c = (filled-none 80 _ _, refl, omega arith)
+write-head-requires : tie.Need-write-head-requires
+write-head-requires c κs = search needs
 
-mul-at : tie.Need-mul-at Inv-loop μ-loop
-mul-at c = search needs
+sub-write-vauxes : tie.Need-sub-write-vauxes
+sub-write-vauxes c = search needs
 
-add-to : tie.Need-add-to Inv-loop μ-loop
-add-to c = search needs
+part-write-vauxes-start : tie.Need-part-write-vauxes-start
+part-write-vauxes-start c = search needs
 
-sub-write-block : tie.Need-sub-write-block Inv-loop μ-loop
-sub-write-block c = search needs
+part-write-vauxes-end : tie.Need-part-write-vauxes-end
+part-write-vauxes-end c = search needs
 
-part-write-block-start : tie.Need-part-write-block-start Inv-loop μ-loop
-part-write-block-start c = search needs
+write-vauxes-requires : tie.Need-write-vauxes-requires
+write-vauxes-requires c κs = search needs
 
-part-write-block-end : tie.Need-part-write-block-end Inv-loop μ-loop
-part-write-block-end c = search needs
+sub-write-rows : tie.Need-sub-write-rows
+sub-write-rows c = search needs
 
-mul-entry-of : tie.Need-mul-entry-of Inv-loop μ-loop
-mul-entry-of c = search needs
+part-write-rows-start : tie.Need-part-write-rows-start
+part-write-rows-start c = search needs
 
-array-read-entry-of : tie.Need-array-read-entry-of Inv-loop μ-loop
-array-read-entry-of c = search needs
+part-write-rows-end : tie.Need-part-write-rows-end
+part-write-rows-end c = search needs
 
-entry-of-requires : tie.Need-entry-of-requires Inv-loop μ-loop
-entry-of-requires c κs = search needs
+write-rows-requires : tie.Need-write-rows-requires
+write-rows-requires c κs = search (smaller-asked, needs)
 
-write-block-requires : tie.Need-write-block-requires Inv-loop μ-loop
-write-block-requires c κs = search (block-asked, needs)
-
-add-p : tie.Need-add-p Inv-loop μ-loop
-add-p c = search needs
-
-loop-less : tie.Need-loop-less Inv-loop μ-loop
-loop-less c = search needs
-
-loop-again : tie.Need-loop-again Inv-loop μ-loop
-loop-again c = (search (sequence-turn, needs), search needs, search needs)
-
-same-length : tie.Need-same-length Inv-loop μ-loop
+same-length : tie.Need-same-length
 same-length c = search needs
 
-returns : tie.Need-returns Inv-loop μ-loop
+returns : tie.Need-returns
 returns c = search (sequence-done, needs)
 
 pub write-sequence-spec : {M : Type 1} → statement M
 write-sequence-spec =
     tie.close
     (tie.spec
-    Inv-loop
-    μ-loop
-    printed-places-requires
-    loop-holds
-    mul-at
-    add-to
-    sub-write-block
-    part-write-block-start
-    part-write-block-end
-    mul-entry-of
-    array-read-entry-of
-    entry-of-requires
-    write-block-requires
-    add-p
-    loop-less
-    loop-again
+    sub-write-head
+    part-write-head-start
+    part-write-head-end
+    write-head-requires
+    sub-write-vauxes
+    part-write-vauxes-start
+    part-write-vauxes-end
+    write-vauxes-requires
+    sub-write-rows
+    part-write-rows-start
+    part-write-rows-end
+    write-rows-requires
     same-length
     returns)

@@ -5,15 +5,15 @@ use mathlib.Core.List.{_++_}
 use Prim.Native.Nat.{_-_, _≤_}
 use native.Mathlib.Omega.{arith}
 use lib.ListN.{length, take, drop, length-set}
-use Rattle.writer.proofs.Ways.{copy-turn, copy-done}
+use Rattle.writer.proofs.Ways.{copy-next, copy-done}
 use Rattle.writer.proofs.video.copy_macroblock.Statement.{statement}
 use Rattle.writer.proofs.video.copy_macroblock.Tie as tie
 
 abbrev Inv-loop : tie.InvT-loop
-Inv-loop part₀ from i₀ part i = (part ≡ take i from ++ drop i part₀) × (length part ≡ length part₀) × (i ≤ 77)
+Inv-loop part₀ from i₀ part i = (part ≡ take i from ++ drop i part₀) × (length part ≡ length part₀) × (i ≤ 76)
 
 abbrev μ-loop : tie.MeasureT-loop
-μ-loop part₀ from i₀ part i = 77 - i
+μ-loop part₀ from i₀ part i = 76 - i
 
 loop-holds : tie.Need-loop-holds Inv-loop μ-loop
 loop-holds c = (refl, refl, omega arith)
@@ -31,10 +31,16 @@ loop-less : tie.Need-loop-less Inv-loop μ-loop
 loop-less c = search needs
 
 loop-again : tie.Need-loop-again Inv-loop μ-loop
-loop-again c = (search (copy-turn, needs), simp length-set (omega arith), search needs)
+loop-again c = (search (copy-next, needs), simp length-set (omega arith), search needs)
+
+shared-slice-read-part-2 : tie.Need-shared-slice-read-part-2 Inv-loop μ-loop
+shared-slice-read-part-2 c = search needs
+
+slice-write-part-2 : tie.Need-slice-write-part-2 Inv-loop μ-loop
+slice-write-part-2 c = search needs
 
 same-length : tie.Need-same-length Inv-loop μ-loop
-same-length c = search needs
+same-length c = simp length-set (omega arith)
 
 returns : tie.Need-returns Inv-loop μ-loop
 returns c = search (copy-done, needs)
@@ -51,5 +57,7 @@ copy-macroblock-spec =
     add-i
     loop-less
     loop-again
+    shared-slice-read-part-2
+    slice-write-part-2
     same-length
     returns)

@@ -1,0 +1,54 @@
+-- `writer::sequence::write_row` meets its contract: the audio block, then the video blocks. Assumes nothing.
+use Rattle.writer.proofs.Whole.{audio-asked, smaller-row-asked, row-done}
+use borrow.Author.Needs.{needs}
+use Rattle.writer.proofs.sequence.write_row.Statement.{statement}
+use Rattle.writer.proofs.sequence.write_row.Tie as tie
+
+sub-write-audio : tie.Need-sub-write-audio
+sub-write-audio c = search needs
+
+part-write-audio-start : tie.Need-part-write-audio-start
+part-write-audio-start c = search needs
+
+part-write-audio-end : tie.Need-part-write-audio-end
+part-write-audio-end c = search needs
+
+id-requires : tie.Need-id-requires
+id-requires c κs = search needs
+
+write-audio-requires : tie.Need-write-audio-requires
+write-audio-requires c κs = search needs
+
+sub-write-videos : tie.Need-sub-write-videos
+sub-write-videos c = search needs
+
+part-write-videos-start : tie.Need-part-write-videos-start
+part-write-videos-start c = search needs
+
+part-write-videos-end : tie.Need-part-write-videos-end
+part-write-videos-end c = search needs
+
+write-videos-requires : tie.Need-write-videos-requires
+write-videos-requires c κs = search needs
+
+same-length : tie.Need-same-length
+same-length c = search needs
+
+returns : tie.Need-returns
+returns c = search (row-done, needs)
+
+pub write-row-spec : {M : Type 1} → statement M
+write-row-spec =
+    tie.close
+    (tie.spec
+    sub-write-audio
+    part-write-audio-start
+    part-write-audio-end
+    id-requires
+    write-audio-requires
+    sub-write-videos
+    part-write-videos-start
+    part-write-videos-end
+    write-videos-requires
+    same-length
+    returns)

@@ -1,0 +1,83 @@
+-- `writer::sequence::write_subcodes` meets its contract: the first blocks are written, and the rest is as it was. Assumes nothing.
+use borrow.Author.Needs.{needs}
+use mathlib.Core.Path.{_≡_, refl}
+use Prim.Native.Nat.{_-_, _≤_}
+use native.Mathlib.Omega.{arith}
+use lib.ListN.{length}
+use Rattle.base.proofs.Filling.{Filled, filled-none}
+use Rattle.writer.proofs.Whole.{subcode-in, subcodes-turn, subcodes-done}
+use Rattle.writer.proofs.sequence.write_subcodes.Statement.{statement}
+use Rattle.writer.proofs.sequence.write_subcodes.Tie as tie
+
+abbrev Inv-loop : tie.InvT-loop
+Inv-loop part₀ y h q count sound macroblocks time group k₀ part k = Filled 80 (subcode-in y h q count sound macroblocks time group) k part₀ part × (length part ≡ length part₀) × (k ≤ 2)
+
+abbrev μ-loop : tie.MeasureT-loop
+μ-loop part₀ y h q count sound macroblocks time group k₀ part k = 2 - k
+
+loop-holds : tie.Need-loop-holds Inv-loop μ-loop
+loop-holds c = (filled-none 80 _ _, refl, omega arith)
+
+cast-at : tie.Need-cast-at Inv-loop μ-loop
+cast-at c = search needs
+
+mul-at : tie.Need-mul-at Inv-loop μ-loop
+mul-at c = search needs
+
+add-to : tie.Need-add-to Inv-loop μ-loop
+add-to c = search needs
+
+half-requires : tie.Need-half-requires Inv-loop μ-loop
+half-requires c κs = search needs
+
+sub-write-subcode : tie.Need-sub-write-subcode Inv-loop μ-loop
+sub-write-subcode c = search needs
+
+part-write-subcode-start : tie.Need-part-write-subcode-start Inv-loop μ-loop
+part-write-subcode-start c = search needs
+
+part-write-subcode-end : tie.Need-part-write-subcode-end Inv-loop μ-loop
+part-write-subcode-end c = search needs
+
+id-requires : tie.Need-id-requires Inv-loop μ-loop
+id-requires c κs = search needs
+
+write-subcode-requires : tie.Need-write-subcode-requires Inv-loop μ-loop
+write-subcode-requires c κs = search needs
+
+add-k : tie.Need-add-k Inv-loop μ-loop
+add-k c = search needs
+
+loop-less : tie.Need-loop-less Inv-loop μ-loop
+loop-less c = search needs
+
+loop-again : tie.Need-loop-again Inv-loop μ-loop
+loop-again c = (search (subcodes-turn, needs), search needs, search needs)
+
+same-length : tie.Need-same-length Inv-loop μ-loop
+same-length c = search needs
+
+returns : tie.Need-returns Inv-loop μ-loop
+returns c = search (subcodes-done, needs)
+
+pub write-subcodes-spec : {M : Type 1} → statement M
+write-subcodes-spec =
+    tie.close
+    (tie.spec
+    Inv-loop
+    μ-loop
+    loop-holds
+    cast-at
+    mul-at
+    add-to
+    half-requires
+    sub-write-subcode
+    part-write-subcode-start
+    part-write-subcode-end
+    id-requires
+    write-subcode-requires
+    add-k
+    loop-less
+    loop-again
+    same-length
+    returns)

@@ -1,0 +1,79 @@
+-- `writer::sequence::write_vauxes` meets its contract: the first blocks are written, and the rest is as it was. Assumes nothing.
+use borrow.Author.Needs.{needs}
+use mathlib.Core.Path.{_≡_, refl}
+use Prim.Native.Nat.{_-_, _≤_}
+use native.Mathlib.Omega.{arith}
+use lib.ListN.{length}
+use Rattle.base.proofs.Filling.{Filled, filled-none}
+use Rattle.writer.proofs.Whole.{vaux-in, vauxes-turn, vauxes-done}
+use Rattle.writer.proofs.sequence.write_vauxes.Statement.{statement}
+use Rattle.writer.proofs.sequence.write_vauxes.Tie as tie
+
+abbrev Inv-loop : tie.InvT-loop
+Inv-loop part₀ y h q count sound macroblocks time group k₀ part k = Filled 80 (vaux-in y h q count sound macroblocks time group) k part₀ part × (length part ≡ length part₀) × (k ≤ 3)
+
+abbrev μ-loop : tie.MeasureT-loop
+μ-loop part₀ y h q count sound macroblocks time group k₀ part k = 3 - k
+
+loop-holds : tie.Need-loop-holds Inv-loop μ-loop
+loop-holds c = (filled-none 80 _ _, refl, omega arith)
+
+cast-at : tie.Need-cast-at Inv-loop μ-loop
+cast-at c = search needs
+
+mul-at : tie.Need-mul-at Inv-loop μ-loop
+mul-at c = search needs
+
+add-to : tie.Need-add-to Inv-loop μ-loop
+add-to c = search needs
+
+sub-write-vaux : tie.Need-sub-write-vaux Inv-loop μ-loop
+sub-write-vaux c = search needs
+
+part-write-vaux-start : tie.Need-part-write-vaux-start Inv-loop μ-loop
+part-write-vaux-start c = search needs
+
+part-write-vaux-end : tie.Need-part-write-vaux-end Inv-loop μ-loop
+part-write-vaux-end c = search needs
+
+id-requires : tie.Need-id-requires Inv-loop μ-loop
+id-requires c κs = search needs
+
+write-vaux-requires : tie.Need-write-vaux-requires Inv-loop μ-loop
+write-vaux-requires c κs = search needs
+
+add-k : tie.Need-add-k Inv-loop μ-loop
+add-k c = search needs
+
+loop-less : tie.Need-loop-less Inv-loop μ-loop
+loop-less c = search needs
+
+loop-again : tie.Need-loop-again Inv-loop μ-loop
+loop-again c = (search (vauxes-turn, needs), search needs, search needs)
+
+same-length : tie.Need-same-length Inv-loop μ-loop
+same-length c = search needs
+
+returns : tie.Need-returns Inv-loop μ-loop
+returns c = search (vauxes-done, needs)
+
+pub write-vauxes-spec : {M : Type 1} → statement M
+write-vauxes-spec =
+    tie.close
+    (tie.spec
+    Inv-loop
+    μ-loop
+    loop-holds
+    cast-at
+    mul-at
+    add-to
+    sub-write-vaux
+    part-write-vaux-start
+    part-write-vaux-end
+    id-requires
+    write-vaux-requires
+    add-k
+    loop-less
+    loop-again
+    same-length
+    returns)
