@@ -7,7 +7,7 @@ use native.Mathlib.Nat.{add-zero, add-suc, mul-zero, mul-suc, mul-add-div, mul-a
 use native.Mathlib.Numerals.{add-one}
 use native.Mathlib.Omega.{arith}
 use lib.ListN.{length, take, drop, getD, length-append, length-drop}
-use lib.Seq.{take-add, take-append-le, drop-append-le, drop-at, take-all, drop-drop, getD-take, getD-drop, ext-getD, length-take-le}
+use lib.Seq.{take-add, take-append-le, drop-append-le, drop-at, take-all, getD-take, getD-drop, ext-getD, length-take-le}
 use Rattle.base.specs.Run.{run, Wide, tab}
 use Rattle.base.proofs.Cases.{by-eq}
 use Rattle.base.proofs.Parts.{part-part}

@@ -10,13 +10,14 @@ use borrow.Author.Tests.{eq-eqb, ne-eqb, eqb-true, lt-ltb, ltb-true}
 use Rattle.base.specs.Pick.{pick}
 use Rattle.base.specs.Run.{run, tab}
 use Rattle.base.proofs.Picks.{pick-true, pick-false, pick-either}
+use Rattle.base.proofs.Picks.{both-held}
 use Rattle.rules.specs.declared.System.{System}
 use Rattle.rules.specs.declared.System.the-variants.{I60, I50, P60, P50}
 use Rattle.rules.specs.declared.Pack.{Pack}
 use Rattle.rules.specs.Systems.{rateOf, isCount}
 use Rattle.rules.specs.Packs.{packBytes, noPack}
 use Rattle.rules.specs.Aaux.{asAt, sizeOf, countOf, modeOf, asPack, ascPack, aauxPack, countIn, asOk, As}
-use Rattle.rules.proofs.Packs.{both, rate-below}
+use Rattle.rules.proofs.Systems.{rate-below}
 
 -- ---- sizeOf, countOf, modeOf
 
@@ -60,13 +61,13 @@ module _ (y : System) (c : ℕ) (p : Pack) where
       let chn = ltb (p .pc2) 32 in
       let count = isCount y (countIn p) in
       let lf = ltb (p .pc1) 128 in
-      let all = both (eqb (p .pc0) 0x50) (lf && (count && (chn && (mode && (rate && (stype && smpQu)))))) e in
-      let seven = both lf (count && (chn && (mode && (rate && (stype && smpQu))))) (all .1) in
-      let six = both count (chn && (mode && (rate && (stype && smpQu)))) (seven .1) in
-      let five = both chn (mode && (rate && (stype && smpQu))) (six .1) in
-      let four = both mode (rate && (stype && smpQu)) (five .1) in
-      let three = both rate (stype && smpQu) (four .1) in
-      let two = both stype smpQu (three .1) in
+      let all = both-held (eqb (p .pc0) 0x50) (lf && (count && (chn && (mode && (rate && (stype && smpQu)))))) e in
+      let seven = both-held lf (count && (chn && (mode && (rate && (stype && smpQu))))) (all .1) in
+      let six = both-held count (chn && (mode && (rate && (stype && smpQu)))) (seven .1) in
+      let five = both-held chn (mode && (rate && (stype && smpQu))) (six .1) in
+      let four = both-held mode (rate && (stype && smpQu)) (five .1) in
+      let three = both-held rate (stype && smpQu) (four .1) in
+      let two = both-held stype smpQu (three .1) in
       record {
         header = eqb-true (p .pc0) 0x50 (all .0);
         lf = ltb-true (p .pc1) 128 (seven .0);

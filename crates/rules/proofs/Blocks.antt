@@ -1,10 +1,10 @@
 -- Laws of blocks and sequences as parts of a frame. Assumes nothing.
-use mathlib.Core.Path.{_≡_, refl, sym, ap, _∙_}
+use mathlib.Core.Path.{_≡_, sym, _∙_}
 use mathlib.Core.List.{List}
 use Prim.Native.Nat.{ℕ, _+_, _*_, _/_, _%_, _≤_, _<_}
 use native.Mathlib.Nat.{mul-le-mul-left, mul-comm, div-add-mod', mod-lt, div-lt-iff-lt-mul}
 use native.Mathlib.Omega.{arith}
-use lib.ListN.{length, take, drop}
+use lib.ListN.{length}
 use Rattle.base.proofs.Parts.{length-part, part-part, digit-one}
 use Rattle.rules.specs.declared.System.{System}
 use Rattle.rules.specs.Systems.{sequencesOf}

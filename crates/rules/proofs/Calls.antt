@@ -1,35 +1,34 @@
 -- Every public call: one answer and one content of each lent buffer, for every input; a refusal writes nothing; what is in order is taken.
 -- Assumes nothing.
 use mathlib.Core.Path.{_≡_, refl, sym, ap, _∙_}
-use mathlib.Core.Bool.{Bool, true, false, not, _||_}
-use mathlib.Core.List.{List, [], _∷_}
-use Prim.Native.Nat.{ℕ, suc, _+_, _*_, _/_, _≤_, _<_, min}
+use mathlib.Core.Bool.{true, false, _||_}
+use mathlib.Core.List.{List, []}
+use Prim.Native.Nat.{ℕ, suc, _*_, _/_, _≤_, _<_, min}
 use native.Mathlib.Omega.{arith}
-use lib.Dec.{eqb, leb, ltb}
+use lib.Dec.{eqb, leb}
 use lib.ListN.{length}
-use borrow.Author.Tests.{eq-eqb, ne-eqb, lt-leb, leb-false, eqb-true, not-false, lt-ltb, le-ltb}
+use borrow.Author.Tests.{eq-eqb, ne-eqb, lt-leb, leb-false, lt-ltb, le-ltb}
 use Rattle.base.specs.Calls.{firstOf, _when_, ExactlyOne}
 use Rattle.base.specs.Pick.{pick}
 use Rattle.base.proofs.Cases.{by-bool, by-eq}
 use Rattle.base.proofs.Picks.{pick-true, pick-false, neither}
 use Rattle.rules.specs.declared.System.{System}
-use Rattle.rules.specs.declared.SystemNumber.{SystemNumber}
 use Rattle.rules.specs.declared.SystemNumber.the-variants.{Known, NoSystem}
 use Rattle.rules.specs.declared.Place.{Place}
 use Rattle.rules.specs.declared.IdAnswer.{IdAnswer}
 use Rattle.rules.specs.declared.IdAnswer.the-variants.{Named, Reserved, WrongLength}
 use Rattle.rules.specs.declared.Fault.{Fault}
 use Rattle.rules.specs.declared.Survey.{Survey}
-use Rattle.rules.specs.Systems.{sequencesOf, systemOf, isNoSystem, sequencesIn, frameBytes}
+use Rattle.rules.specs.Systems.{sequencesOf, systemOf}
 use Rattle.rules.specs.Places.{place}
 use Rattle.rules.specs.Ids.{sectionBits, dseqBits, fscBit, fspBit, dbnByte, channelOf, namedBy, idAnswer, idRefusal, idValues}
 use Rattle.rules.specs.Blocks.{blockAt}
-use Rattle.rules.specs.Faults.{faultAt, frameFaults, faultsIn, sequenceFaults}
+use Rattle.rules.specs.Faults.{faultAt}
 use Rattle.rules.specs.Records.{kept, after}
 use Rattle.rules.specs.Noting.{Noted}
 use Rattle.rules.specs.ReadId.{IdRead}
 use Rattle.rules.specs.Survey.{outsideSequences, surveyNumber, sequenceNumber, refusal, surveyAnswer, surveyLeft, Surveyed, FrameSurveyed, SequenceSurveyed}
-use Rattle.rules.specs.View.{viewedBlock, viewNumber, viewPart, ViewNumbered, Viewed}
+use Rattle.rules.specs.View.{viewNumber, viewPart, ViewNumbered, Viewed}
 use Rattle.rules.proofs.Places.{code-section}
 use Rattle.rules.proofs.Blocks.{block-length}
 use Rattle.rules.proofs.Records.{kept-length, more-after}

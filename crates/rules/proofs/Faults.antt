@@ -1,12 +1,11 @@
 -- Laws of a block's fault, and of the list of all faults. Assumes nothing.
 use mathlib.Core.Path.{_≡_, refl, sym, ap, _∙_}
-use mathlib.Core.Bool.{Bool, true, false, not}
+use mathlib.Core.Bool.{not}
 use mathlib.Core.List.{List, [], _∷_, _++_}
 use mathlib.Core.Logic.{inl, inr}
 use Prim.Native.Nat.{ℕ, zero, suc, _+_, _*_, _/_, _%_, _≤_, _<_}
 use native.Mathlib.Nat.{div-add-mod}
 use native.Mathlib.Omega.{arith}
-use lib.Dec.{eqb}
 use lib.ListN.{length, take, drop, length-append}
 use lib.Seq.{length-take-le}
 use borrow.Author.Tests.{eq-eqb, eqb-true, not-false}
@@ -22,13 +21,12 @@ use Rattle.rules.specs.declared.Entry.{Entry}
 use Rattle.rules.specs.declared.BlockId.{BlockId}
 use Rattle.rules.specs.declared.IdAnswer.{IdAnswer}
 use Rattle.rules.specs.declared.IdAnswer.the-variants.{Named, Reserved, WrongLength}
-use Rattle.rules.specs.declared.Fault.{Fault}
 use Rattle.rules.specs.Systems.{sequencesOf}
 use Rattle.rules.specs.Places.{codeOf, place, entryAt}
 use Rattle.rules.specs.Ids.{blockAnswer, idBytes, idAt}
 use Rattle.rules.specs.Blocks.{startOf, blockAt, sequenceAt, blockIn}
 use Rattle.rules.specs.Faults.{misnamed, faultOf, faultAt, FaultNumber, NamesPlace, names, blockFaults, placeFaults, sequenceFaults, partFaults, channelFaults, frameFaults}
-use Rattle.rules.specs.Stream.{blocksIn, nthBlock, channelAt, dseqAt, placeAt, named, recordOf, unnamed, failing}
+use Rattle.rules.specs.Stream.{blocksIn, named, recordOf, unnamed, failing}
 use Rattle.rules.proofs.Systems.{sequences-some, sequences-le}
 use Rattle.rules.proofs.Places.{code-one, number-below}
 use Rattle.rules.proofs.Ids.{answer-written, answer-long}

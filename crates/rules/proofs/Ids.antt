@@ -1,21 +1,20 @@
 -- Laws of block IDs. Assumes nothing.
-use mathlib.Core.Path.{_≡_, refl, sym, ap, _∙_}
+use mathlib.Core.Path.{_≡_, refl, _∙_}
 use mathlib.Core.Bool.{Bool, true, false}
-use mathlib.Core.List.{List, [], _∷_}
+use mathlib.Core.List.{List}
 use Prim.Native.Nat.{ℕ, _+_, _*_, _-_, _/_, _%_, _<_}
 use native.Mathlib.Nat.{mod-eq-of-lt}
 use native.Mathlib.Omega.{arith}
-use lib.Dec.{T, eqb, ltb, eqb→eq}
+use lib.Dec.{eqb, ltb, eqb→eq}
 use lib.ListN.{length, getD}
 use borrow.Author.Tests.{lt-ltb, eq-eqb}
 use Rattle.base.specs.Pick.{pick}
 use Rattle.base.proofs.Picks.{pick-true}
 use Rattle.base.proofs.Below.{below-at}
 use Rattle.rules.specs.declared.BlockId.{BlockId}
-use Rattle.rules.specs.declared.IdAnswer.{IdAnswer}
 use Rattle.rules.specs.declared.IdAnswer.the-variants.{Named, Reserved, WrongLength}
 use Rattle.rules.specs.Places.{codeOf}
-use Rattle.rules.specs.Ids.{sectionBits, dseqBits, fscBit, fspBit, dbnByte, channelOf, namedBy, idAnswer, fscOf, fspOf, byte0Of, byte1Of, byte2Of, idBytes}
+use Rattle.rules.specs.Ids.{sectionBits, dseqBits, fscBit, fspBit, channelOf, namedBy, idAnswer, fscOf, fspOf, byte0Of, byte1Of, byte2Of, idBytes}
 use Rattle.rules.proofs.Places.{section-code, code-below}
 
 -- ---- channelOf

@@ -1,17 +1,16 @@
 -- A block whose judged bits are those of its place, DIF channel and sequence names its place. Assumes nothing.
-use mathlib.Core.Path.{_≡_, refl, sym, ap, _∙_}
-use mathlib.Core.List.{List, []}
-use Prim.Native.Nat.{ℕ, _+_, _*_, _^_, _/_, _%_, _≤_, _<_}
+use mathlib.Core.Path.{_≡_, refl, _∙_}
+use mathlib.Core.List.{List}
+use Prim.Native.Nat.{ℕ, _+_, _*_, _^_, _/_, _≤_, _<_}
 use native.Mathlib.Omega.{arith}
 use lib.Bits.{bitAnd, and-block, and-mask, and-high}
 use lib.Dec.{lit≤}
-use lib.ListN.{length, getD, take, length-take}
+use lib.ListN.{length, getD, take}
 use lib.Seq.{getD-take, length-take-le}
-use Rattle.rules.specs.declared.IdAnswer.{IdAnswer}
 use Rattle.rules.specs.declared.IdAnswer.the-variants.{Named}
 use Rattle.rules.specs.Places.{codeOf, place, entryAt}
 use Rattle.rules.specs.Ids.{blockAnswer, idBytes, idAt, fscOf, fspOf}
-use Rattle.rules.specs.Faults.{faultAt, NamesPlace}
+use Rattle.rules.specs.Faults.{faultAt}
 use Rattle.rules.specs.Judging.{judgedBits, printed, keyOf}
 use Rattle.rules.proofs.Places.{code-below, number-below}
 use Rattle.rules.proofs.Ids.{answer-judged, answer-written, second-judged}

@@ -1,6 +1,6 @@
 -- Laws of packs, of the header block and of time codes. Assumes nothing.
 use mathlib.Core.Path.{_≡_, refl, ap, _∙_}
-use mathlib.Core.Bool.{Bool, true, false, _&&_}
+use mathlib.Core.Bool.{true, false, _&&_}
 use mathlib.Core.List.{List, _++_}
 use Prim.Native.Nat.{ℕ, zero, suc, _+_, _*_, _/_, _%_, _<_}
 use native.Mathlib.Omega.{arith}
@@ -10,34 +10,15 @@ use lib.Seq.{getD-append-add}
 use borrow.Author.Tests.{eq-eqb, eqb-true, lt-ltb, ltb-true, le-leb, leb-true}
 use Rattle.base.specs.Pick.{pick}
 use Rattle.base.specs.Run.{run, Wide}
+use Rattle.base.proofs.Picks.{both-held}
 use Rattle.base.proofs.Runs.{length-run, run-element, end-within}
 use Rattle.rules.specs.declared.System.{System}
 use Rattle.rules.specs.declared.System.the-variants.{I60, I50, P60, P50}
 use Rattle.rules.specs.declared.Pack.{Pack}
-use Rattle.rules.specs.Systems.{rateOf, stypeOf}
+use Rattle.rules.specs.Systems.{rateOf}
 use Rattle.rules.specs.Packs.{packIn, packBytes}
 use Rattle.rules.specs.Header.{headerBytes, dsfOk, flagged}
-use Rattle.rules.specs.TimeCode.{valueIn, digitsOk, lastFrame, clockOk, timeOk, bitTaken, timeTaken, Digits, Clock}
-
--- ---- two tests in a row
-
-pub both : (a b : Bool) → (a && b) ≡ true → (a ≡ true) × (b ≡ true)
-both true b e = (refl, e)
-both false b e = let z : _≡_ {A = ℕ} 0 1 = cc in absurd (omega arith)
-
--- ---- rateOf, stypeOf
-
-pub rate-below : (y : System) → rateOf y < 2
-rate-below I60 = omega arith
-rate-below I50 = omega arith
-rate-below P60 = omega arith
-rate-below P50 = omega arith
-
-pub stype-below : (y : System) → stypeOf y < 32
-stype-below I60 = omega arith
-stype-below I50 = omega arith
-stype-below P60 = omega arith
-stype-below P50 = omega arith
+use Rattle.rules.specs.TimeCode.{valueIn, digitsOk, lastFrame, clockOk, timeOk, groupOk, bitTaken, timeTaken, Digits, Clock}
 
 -- ---- packIn, packBytes
 
@@ -142,7 +123,7 @@ last-frame P50 = refl
 
 pub digits-means : (tens most b : ℕ) → digitsOk tens most b ≡ true → Digits tens most b
 digits-means tens most b e =
-    let two = both (ltb (b % 16) 10) (leb (valueIn tens b) most) e in
+    let two = both-held (ltb (b % 16) 10) (leb (valueIn tens b) most) e in
     record { units = ltb-true (b % 16) 10 (two .0); value = leb-true (valueIn tens b) most (two .1) }
 
 pub digits-when : (tens most b : ℕ) → Digits tens most b → digitsOk tens most b ≡ true
@@ -156,9 +137,9 @@ module _ (y : System) (p : Pack) where
       let hours = digitsOk 4 23 (p .pc4) in
       let minutes = digitsOk 8 59 (p .pc3) in
       let seconds = digitsOk 8 59 (p .pc2) in
-      let all = both (digitsOk 4 (lastFrame y) (p .pc1)) (seconds && (minutes && hours)) e in
-      let three = both seconds (minutes && hours) (all .1) in
-      let two = both minutes hours (three .1) in
+      let all = both-held (digitsOk 4 (lastFrame y) (p .pc1)) (seconds && (minutes && hours)) e in
+      let three = both-held seconds (minutes && hours) (all .1) in
+      let two = both-held minutes hours (three .1) in
       record {
         frames = digits-means 4 (lastFrame y) (p .pc1) (all .0);
         seconds = digits-means 8 59 (p .pc2) (three .0);
@@ -172,7 +153,7 @@ module _ (y : System) (p : Pack) where
       (digits-when 4 23 (p .pc4) (h .hours))
 
   pub time-means : timeOk y p ≡ true → (p .pc0 ≡ 0x13) × Clock y p
-  time-means e = let two = both (eqb (p .pc0) 0x13) (clockOk y p) e in (eqb-true (p .pc0) 0x13 (two .0), clock-means (two .1))
+  time-means e = let two = both-held (eqb (p .pc0) 0x13) (clockOk y p) e in (eqb-true (p .pc0) 0x13 (two .0), clock-means (two .1))
 
   pub time-when : p .pc0 ≡ 0x13 → Clock y p → timeOk y p ≡ true
   time-when e h = rw (eq-eqb (p .pc0) 0x13 e) (clock-when h)
@@ -185,7 +166,7 @@ module _ (y : System) (p : Pack) where
 
   pub taken-means : timeTaken y p ≡ true → (rateOf y ≡ 1 → p .pc1 / 64 % 2 ≡ 1) × Clock y p
   unfolding timeTaken
-  taken-means e = let two = both (bitTaken y p) (clockOk y p) e in (bit-means (two .0), clock-means (two .1))
+  taken-means e = let two = both-held (bitTaken y p) (clockOk y p) e in (bit-means (two .0), clock-means (two .1))
 
   pub taken-when : (rateOf y ≡ 1 → p .pc1 / 64 % 2 ≡ 1) → Clock y p → timeTaken y p ≡ true
   unfolding timeTaken
@@ -200,3 +181,10 @@ module _ (y : System) (p : Pack) where
   -- what the writer takes, the reader judges right
   pub taken-ok : timeTaken y p ≡ true → p .pc0 ≡ 0x13 → timeOk y p ≡ true
   taken-ok e h = time-when h (taken-means e .1)
+
+-- a binary group has its header, and nothing else is asked of it
+pub group-means : (p : Pack) → groupOk p ≡ true → p .pc0 ≡ 0x14
+group-means p e = eqb-true (p .pc0) 0x14 e
+
+pub group-when : (p : Pack) → p .pc0 ≡ 0x14 → groupOk p ≡ true
+group-when p e = eq-eqb (p .pc0) 0x14 e

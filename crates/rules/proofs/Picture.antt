@@ -9,6 +9,7 @@ use Rattle.base.specs.Pick.{pick}
 use Rattle.base.specs.Calls.{ExactlyOne}
 use Rattle.base.proofs.Cases.{by-lt}
 use Rattle.base.proofs.Picks.{pick-true, pick-false, pick-either}
+use Rattle.base.proofs.Picks.{both-held}
 use Rattle.base.proofs.Below.{below, below-at, both-left, both-right}
 use Rattle.rules.specs.declared.System.{System}
 use Rattle.rules.specs.declared.System.the-variants.{I60, I50, P60, P50}
@@ -193,10 +194,6 @@ remaining I50 s = eqb (s .sequence) 11 && ltb 0 (s .channel)
 remaining P60 s = false
 remaining P50 s = not (ltb (s .sequence) 10)
 
-both-true : (a b : Bool) → (a && b) ≡ true → (a ≡ true) × (b ≡ true)
-both-true true b e = (refl, e)
-both-true false b e = let q : _≡_ {A = ℕ} 0 1 = cc in absurd (omega arith)
-
 right-false : (a b : Bool) → a ≡ true → (a && b) ≡ false → b ≡ false
 right-false true b t e = e
 right-false false b t e = let q : _≡_ {A = ℕ} 0 1 = cc in absurd (omega arith)
@@ -218,7 +215,7 @@ late-none h q v l = nothing-within tenCarries (slot h q v) (rw (le-ltb q 10 l) r
 pub remaining-none : (y : System) (s : Slot) → remaining y s ≡ true → carriedIn y s ≡ Nothing
 remaining-none I60 s e = let q : _≡_ {A = ℕ} 0 1 = cc in absurd (omega arith)
 remaining-none I50 s e =
-    let p = both-true (eqb (s .sequence) 11) (ltb 0 (s .channel)) e in
+    let p = both-held (eqb (s .sequence) 11) (ltb 0 (s .channel)) e in
     let q : s .sequence ≡ 11 = eqb-true _ _ (p .0) in
     ap (λ (n : ℕ). carriedIn I50 (slot (s .channel) n (s .video .0))) q ∙ edge-others-none (s .channel) (s .video .0) (ltb-true _ _ (p .1))
 remaining-none P60 s e = let q : _≡_ {A = ℕ} 0 1 = cc in absurd (omega arith)

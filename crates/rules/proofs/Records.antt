@@ -5,12 +5,12 @@ use Prim.Native.Nat.{ℕ, zero, suc, _+_, _*_, _-_, _/_, _≤_, _<_, min}
 use native.Mathlib.Nat.{add-zero, zero-add, suc-sub-suc, sub-zero}
 use native.Mathlib.Omega.{arith}
 use lib.ListN.{length, take, drop, set, length-append, length-set, length-take, length-drop, take-append-drop}
-use lib.Seq.{take-nil, take-all, take-at, drop-at, take-append-le, drop-append-le, take-append-add, length-take-le, sets-eq, drop-drop, drop-set-lt}
+use lib.Seq.{take-nil, take-all, take-at, drop-at, length-take-le, sets-eq, drop-drop, drop-set-lt}
 use borrow.Author.Tests.{lt-ltb, le-ltb}
 use Rattle.base.specs.Pick.{pick}
 use Rattle.base.specs.Run.{run}
 use Rattle.base.proofs.Cases.{by-lt}
-use Rattle.base.proofs.Picks.{pick-true, pick-false}
+use Rattle.base.proofs.Picks.{pick-false}
 use Rattle.base.proofs.Runs.{run-zero, run-more}
 use Rattle.rules.specs.declared.Fault.{Fault}
 use Rattle.rules.specs.Records.{flat, room, kept, after}

@@ -1,26 +1,23 @@
 -- Laws of samples: a number that is given, as a sample, as a word, as two bytes, and read again. Assumes nothing.
-use mathlib.Core.Path.{_≡_, refl, sym, ap, _∙_}
-use mathlib.Core.Bool.{Bool, true, false, _&&_}
+use mathlib.Core.Path.{_≡_, refl, _∙_}
+use mathlib.Core.Bool.{true, false}
 use mathlib.Core.Logic.{⊎-elim}
 use mathlib.Core.List.{List, [], _∷_}
-use Prim.Native.Nat.{ℕ, zero, suc, _+_, _-_, _*_, _/_, _%_, _≤_, _<_}
+use Prim.Native.Nat.{ℕ, zero, suc, _-_, _≤_, _<_}
 use native.Mathlib.Nat.{div-add-mod', eq-or-lt-of-le, not-suc-le-zero, le-of-suc-le-suc}
 use native.Mathlib.Omega.{arith}
-use lib.Dec.{eqb, leb}
+use lib.Dec.{leb}
 use lib.ListN.{length, getD}
 use lib.IntN.{ℤ, pos, negsuc}
 use lib.Signed.{leZ}
 use mir.Syntax.{w16}
-use mir.Val.{toZ, ofZ}
 use mir.ValLaws.{toZ-pos, toZ-neg}
-use borrow.Author.Tests.{le-leb, lt-leb, eq-eqb, ne-eqb, leb-true}
+use borrow.Author.Tests.{le-leb, lt-leb, ne-eqb, leb-true}
 use Rattle.base.specs.Pick.{pick}
 use Rattle.base.proofs.Cases.{by-bool}
 use Rattle.base.proofs.Picks.{pick-either, both-held}
-use Rattle.rules.specs.declared.Sample.{Sample}
 use Rattle.rules.specs.declared.Sample.the-variants.{Level, Lost}
-use Rattle.rules.specs.declared.SampleNumber.{SampleNumber}
-use Rattle.rules.specs.declared.SampleNumber.the-variants.{Sampled, NoSample}
+use Rattle.rules.specs.declared.SampleNumber.the-variants.{NoSample}
 use Rattle.rules.specs.Samples.{lost, numberOf, inRange, sampleIn, allInRange, sampleOf, wordOf, wordIn, wordFor, bytesOf, wordAt, backOf}
 
 -- ---- sampleOf, wordOf

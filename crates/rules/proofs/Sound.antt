@@ -1,14 +1,14 @@
 -- The place of a sample and its inverse, once over s = n/2: of t = 9 s w + u the sequence and the audio block are those of u, and
 -- the word is w; the rest is a test at the 9 s numbers u, which antt computes. Assumes nothing.
-use mathlib.Core.Path.{_≡_, refl, sym, ap, ap₂, _∙_, subst}
+use mathlib.Core.Path.{_≡_, sym, ap, ap₂, _∙_, subst}
 use mathlib.Core.Logic.{_⊎_, ⊎-elim}
-use mathlib.Core.Bool.{Bool, _&&_}
+use mathlib.Core.Bool.{Bool}
 use Prim.Native.Nat.{ℕ, _+_, _-_, _*_, _/_, _%_, _<_, _≤_}
 use native.Mathlib.Nat.{mul-add-mod-self-left, mul-add-div, mod-lt, mod-eq-of-lt, div-eq-of-lt, div-add-mod, div-lt-iff-lt-mul, mul-le-mul-right, mul-le-mul-left}
 use native.Mathlib.Omega.{arith}
 use lib.Dec.{T, eqb, ltb, eqb→eq, ltb→lt, lit<}
-use Rattle.base.proofs.Below.{below, below-at, both-left, both-right}
-use Rattle.rules.specs.Sound.{difOf, halfAt, rowOf, sequenceOf, audioOf, wordNumber, audioAt, rowAt, firstAt, sampleAt}
+use Rattle.base.proofs.Below.{below, below-at}
+use Rattle.rules.specs.Sound.{difOf, halfAt, rowOf, audioOf, wordNumber, audioAt, rowAt, firstAt, sampleAt}
 
 -- ---- s
 

@@ -6,17 +6,28 @@ use Prim.Native.Nat.{ℕ, _+_, _*_, _/_, _%_, _≤_, _<_}
 use native.Mathlib.Omega.{arith}
 use lib.Dec.{T, eqb}
 use lib.ListN.{length, getD, replicate, length-append, List·getD-eq-default}
-use borrow.Author.Tests.{ne-eqb}
+use borrow.Author.Tests.{ne-eqb, lt-ltb, ltb-true}
 use Rattle.base.specs.Pick.{pick}
 use Rattle.base.specs.Run.{run, tab, Wide}
 use Rattle.base.proofs.Cases.{by-lt}
 use Rattle.base.proofs.Below.{below-at}
 use Rattle.base.proofs.Runs.{length-run}
+use Rattle.rules.specs.declared.System.{System}
 use Rattle.rules.specs.declared.Pack.{Pack}
 use Rattle.rules.specs.declared.SubcodePack.{SubcodePack}
 use Rattle.rules.specs.declared.SubcodePack.the-variants.{TimeCode, BinaryGroup, NoPack}
-use Rattle.rules.specs.Subcode.{kindOf, subcodePack, ssyb, ssybs, subcodeBytes, ssybPack}
+use Rattle.rules.specs.Systems.{sequencesOf, halfOf}
+use Rattle.rules.specs.Subcode.{isFirst, kindOf, subcodePack, ssyb, ssybs, subcodeBytes, ssybPack}
+use Rattle.rules.proofs.Systems.{half-twice}
 use Rattle.rules.proofs.Packs.{part-pack}
+
+-- ---- isFirst: "the first n/2 sequences"
+
+pub first-means : (y : System) (q : ℕ) → isFirst y q ≡ true → 2 * q < sequencesOf y
+first-means y q e = omega (arith, half-twice y, ltb-true q (halfOf y) e)
+
+pub first-when : (y : System) (q : ℕ) → 2 * q < sequencesOf y → isFirst y q ≡ true
+first-when y q h = lt-ltb q (halfOf y) (omega (arith, half-twice y))
 
 -- ---- kindOf
 

@@ -1,5 +1,5 @@
 -- Laws of the four systems. Assumes nothing.
-use mathlib.Core.Path.{_≡_, refl, sym, ap, _∙_}
+use mathlib.Core.Path.{_≡_, refl}
 use mathlib.Core.Bool.{true}
 use mathlib.Core.Logic.{_⊎_, inl, inr, ⊎-elim}
 use Prim.Native.Nat.{ℕ, _+_, _*_, _≤_, _<_}
@@ -9,9 +9,8 @@ use Rattle.base.specs.Pick.{pick}
 use Rattle.base.proofs.Cases.{by-eq}
 use Rattle.rules.specs.declared.System.{System}
 use Rattle.rules.specs.declared.System.the-variants.{I60, I50, P60, P50}
-use Rattle.rules.specs.declared.SystemNumber.{SystemNumber}
 use Rattle.rules.specs.declared.SystemNumber.the-variants.{Known, NoSystem}
-use Rattle.rules.specs.Systems.{sequencesOf, halfOf, positionsOf, countsOf, isCount, rateOf, systemOf, numberOf}
+use Rattle.rules.specs.Systems.{sequencesOf, halfOf, positionsOf, countsOf, isCount, rateOf, stypeOf, systemOf, numberOf}
 
 -- ---- systemOf
 
@@ -71,6 +70,20 @@ rate-sequences I60 = refl
 rate-sequences I50 = refl
 rate-sequences P60 = refl
 rate-sequences P50 = refl
+
+pub rate-below : (y : System) → rateOf y < 2
+rate-below I60 = omega arith
+rate-below I50 = omega arith
+rate-below P60 = omega arith
+rate-below P50 = omega arith
+
+-- ---- stypeOf
+
+pub stype-below : (y : System) → stypeOf y < 32
+stype-below I60 = omega arith
+stype-below I50 = omega arith
+stype-below P60 = omega arith
+stype-below P50 = omega arith
 
 -- ---- positionsOf, isCount
 

@@ -10,7 +10,7 @@ use borrow.Author.Tests.{eq-eqb, ne-eqb, eqb-true}
 use Rattle.base.specs.Pick.{pick}
 use Rattle.base.specs.Run.{run, Wide}
 use Rattle.base.proofs.Runs.{length-run}
-use Rattle.base.proofs.Picks.{pick-true, pick-false, pick-either}
+use Rattle.base.proofs.Picks.{pick-true, pick-false, pick-either, both-held}
 use Rattle.rules.specs.declared.System.{System}
 use Rattle.rules.specs.declared.System.the-variants.{I60, I50, P60, P50}
 use Rattle.rules.specs.declared.Pack.{Pack}
@@ -18,7 +18,7 @@ use Rattle.rules.specs.declared.SystemNumber.the-variants.{Known}
 use Rattle.rules.specs.Systems.{rateOf, stypeOf, systemOf}
 use Rattle.rules.specs.Packs.{packBytes, noPack}
 use Rattle.rules.specs.Vaux.{vsAt, vsPack, vscPack, vauxPack, vauxPacks, vauxBytes, vsOk, Vs, vauxIn}
-use Rattle.rules.proofs.Packs.{both, part-pack}
+use Rattle.rules.proofs.Packs.{part-pack}
 
 -- ---- vsPack, vsOk
 
@@ -39,8 +39,8 @@ pub vs-means : (y : System) (p : Pack) → vsOk y p ≡ true → Vs y p
 vs-means y p e =
     let rate = eqb (p .pc3 / 32 % 2) (rateOf y) in
     let stype = eqb (p .pc3 % 32) (stypeOf y) in
-    let all = both (eqb (p .pc0) 0x60) (rate && stype) e in
-    let two = both rate stype (all .1) in
+    let all = both-held (eqb (p .pc0) 0x60) (rate && stype) e in
+    let two = both-held rate stype (all .1) in
     record {
       header = eqb-true (p .pc0) 0x60 (all .0);
       rate = eqb-true (p .pc3 / 32 % 2) (rateOf y) (two .0);

@@ -1,9 +1,9 @@
 -- The call `write_frame`: one answer and one frame for every input, each refusal exactly when its row says, a refusal writes nothing,
 -- what is in order is taken. Assumes nothing.
-use mathlib.Core.Path.{_≡_, refl, sym, ap, _∙_}
-use mathlib.Core.Bool.{Bool, true, false, not, _&&_}
-use mathlib.Core.List.{List, [], _∷_}
-use Prim.Native.Nat.{ℕ, suc, _*_}
+use mathlib.Core.Path.{_≡_, refl, sym, _∙_}
+use mathlib.Core.Bool.{true, false}
+use mathlib.Core.List.{List}
+use Prim.Native.Nat.{ℕ, _*_}
 use native.Mathlib.Omega.{arith}
 use lib.Dec.{eqb}
 use lib.ListN.{length}
@@ -12,13 +12,12 @@ use Rattle.base.specs.Calls.{firstOf, _when_, ExactlyOne}
 use Rattle.base.specs.Pick.{pick}
 use Rattle.base.proofs.Picks.{pick-true, pick-false, first-zero, both-held, both-hold}
 use Rattle.rules.specs.declared.System.{System}
-use Rattle.rules.specs.declared.SystemNumber.{SystemNumber}
 use Rattle.rules.specs.declared.SystemNumber.the-variants.{Known, NoSystem}
-use Rattle.rules.specs.Systems.{sequencesOf, isCount, macroblocksOf, systemOf}
+use Rattle.rules.specs.Systems.{sequencesOf, isCount, systemOf}
 use Rattle.rules.specs.TimeCode.{timePack, timeTaken}
 use Rattle.rules.specs.Samples.{allInRange}
 use Rattle.rules.specs.Written.{Lent, writtenFrame}
-use Rattle.rules.specs.Write.{lengthsOk, countOk, clockTaken, writeNumber, frameFor, writeLeft, Wrote, Takes}
+use Rattle.rules.specs.Write.{lengthsOk, writeNumber, frameFor, writeLeft, Wrote, Takes}
 
 -- ---- Wrote
 

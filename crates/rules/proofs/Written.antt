@@ -1,49 +1,46 @@
 -- Laws of a written frame: its length, its blocks, that each names its place, and what stands in them. Assumes nothing.
-use mathlib.Core.Path.{_≡_, refl, sym, ap, ap₂, _∙_, subst}
-use mathlib.Core.Bool.{Bool, true, false}
-use mathlib.Core.List.{List, [], _∷_, _++_}
+use mathlib.Core.Path.{_≡_, refl, ap, ap₂, _∙_, subst}
+use mathlib.Core.Bool.{true, false}
+use mathlib.Core.List.{List, [], _++_}
 use Prim.Native.Nat.{ℕ, _+_, _-_, _*_, _/_, _%_, _≤_, _<_}
 use native.Mathlib.Nat.{mul-comm, mul-assoc}
 use native.Mathlib.Omega.{arith}
 use borrow.Author.Tests.{eq-eqb, lt-ltb, le-ltb}
-use lib.Dec.{eqb, ltb}
-use lib.IntN.{ℤ, pos}
-use lib.ListN.{length, take, drop, getD, replicate, length-append}
-use lib.Seq.{getD-append-add, take-at, drop-at}
-use Rattle.base.specs.Pick.{pick}
-use Rattle.base.specs.Run.{run, Wide, tab}
-use Rattle.base.proofs.Cases.{by-lt}
+use lib.IntN.{pos}
+use lib.ListN.{length, take, drop, getD, replicate}
+use lib.Seq.{getD-append-add}
+use Rattle.base.specs.Run.{run, Wide}
 use Rattle.base.proofs.Picks.{pick-true, pick-false}
 use Rattle.base.proofs.Runs.{end-within, run-none, length-run, run-at, run-part, run-element, length-tab, tab-part}
 use Rattle.rules.specs.declared.System.{System}
 use Rattle.rules.specs.declared.Section.{Section}
 use Rattle.rules.specs.declared.Section.the-variants.{Header, Subcode, Vaux, Audio, Video}
 use Rattle.rules.specs.declared.Entry.{Entry}
-use Rattle.rules.specs.declared.Pack.{Pack}
 use Rattle.rules.specs.declared.Carried.{Carried}
 use Rattle.rules.specs.declared.Carried.the-variants.{Macroblock, Nothing}
-use Rattle.rules.specs.Systems.{sequencesOf, halfOf, positionsOf, macroblocksOf}
+use Rattle.rules.specs.Systems.{sequencesOf, halfOf, positionsOf, rateOf}
 use Rattle.rules.specs.Places.{place, block, entryAt, placeIn, blocksOf}
 use Rattle.rules.specs.Ids.{idBytes, idOf, idAt}
 use Rattle.rules.specs.Blocks.{startOf, blockAt}
-use Rattle.rules.specs.Packs.{packIn, packBytes}
-use Rattle.rules.specs.Header.{headerBytes}
+use Rattle.rules.specs.Packs.{packBytes}
+use Rattle.rules.specs.Header.{headerBytes, dsfOk, flagged}
 use Rattle.rules.specs.TimeCode.{timePack, groupPack}
-use Rattle.rules.specs.Subcode.{isFirst, ssyb, ssybs, subcodeBytes}
-use Rattle.rules.specs.Vaux.{vauxPack, vauxPacks, vauxBytes}
-use Rattle.rules.specs.Aaux.{aauxPack}
-use Rattle.rules.specs.Samples.{numberOf, sampleOf, allInRange, wordFor, bytesOf, wordAt, backOf}
+use Rattle.rules.specs.Subcode.{isFirst, kindOf, subcodePack, ssybPack}
+use Rattle.rules.specs.Vaux.{vsAt, vsPack, vauxPack, vauxBytes, vauxBlock, vauxIn}
+use Rattle.rules.specs.Aaux.{asAt, asPack, aauxPack, aauxIn}
+use Rattle.rules.specs.Samples.{numberOf, sampleOf, allInRange, bytesOf, wordAt, backOf}
 use Rattle.rules.specs.Sound as sound
-use Rattle.rules.specs.Sound.{difOf, halfAt, rowOf, audioOf, wordNumber, byteOf, audioAt, rowAt, sampleAt}
+use Rattle.rules.specs.Sound.{difOf, halfAt, rowOf, audioOf, wordNumber, byteOf, audioAt, sampleAt}
 use Rattle.rules.specs.Picture.{slot, carriedIn}
 use Rattle.rules.specs.Faults.{faultAt, blockFaults, sequenceFaults, channelFaults, frameFaults}
 use Rattle.rules.specs.Written.{Lent, storedWord, wordBytes, audioBytes, carriedBytes, videoBytes, payload, entryBlock, writtenBlock, writtenSequence, writtenChannel, writtenFrame}
 use Rattle.rules.proofs.Systems.{half-cases, half-twice, positions-half, sequences-le}
 use Rattle.rules.proofs.Places.{place-in-below, entry-place-in}
 use Rattle.rules.proofs.Blocks.{block-in-sequence}
-use Rattle.rules.proofs.Packs.{header-length}
-use Rattle.rules.proofs.Subcode.{subcode-length}
-use Rattle.rules.proofs.Vaux.{vaux-length}
+use Rattle.rules.proofs.Packs.{header-length, dsf-written, flags-written}
+use Rattle.rules.proofs.Subcode.{subcode-length, subcode-pack}
+use Rattle.rules.proofs.Vaux.{vs-below, vaux-vs, vaux-length, vaux-pack}
+use Rattle.rules.proofs.Aaux.{aaux-as, as-below}
 use Rattle.rules.proofs.Faults.{written-names}
 use Rattle.rules.proofs.Samples.{bytes-word, number-again, silence, all-in}
 use Rattle.rules.proofs.Sound.{Half, sample-back, row-below, audio-below, word-below, row-sequence, audio-sequence, sequence-below}
@@ -231,3 +228,51 @@ module _ (y : System) (l : Lent) (h q v : ℕ) (hh : h < 4) (hq : q < sequencesO
   pub frame-empty : carriedIn y (slot h q v) ≡ Nothing → pictureBytes ≡ replicate 77 0xFF
   unfolding payload videoBytes carriedBytes
   frame-empty e = frame-payload y l h q Video v hh hq hv ∙ ap (carriedBytes (l .macroblocks)) e
+
+-- ---- the packs that were written, where a reader looks for them
+
+module _ (y : System) (l : Lent) (h q : ℕ) (hh : h < 4) (hq : q < sequencesOf y) where
+  abbrev pub headerBlock : List ℕ
+  headerBlock = blockAt y (writtenFrame y l) h q (placeIn Header 0)
+
+  header-is : headerBlock ≡ idBytes (idOf h q Header 0) ++ headerBytes y
+  unfolding payload
+  header-is = frame-entry y l h q Header 0 hh hq (omega arith)
+
+  pub frame-dsf : dsfOk y headerBlock ≡ true
+  unfolding idBytes
+  frame-dsf = ap (dsfOk y) header-is ∙ dsf-written (idBytes (idOf h q Header 0)) refl y y ∙ eq-eqb (rateOf y) (rateOf y) refl
+
+  pub frame-flags : (k : ℕ) → 0 < k → k < 4 → flagged k headerBlock ≡ false
+  unfolding idBytes
+  frame-flags k k1 k4 = ap (flagged k) header-is ∙ flags-written (idBytes (idOf h q Header 0)) refl y k k1 k4
+
+  -- SSYB j of SC(k)
+  pub frame-subcode : (k j : ℕ) → k < 2 → j < 6
+      → ssybPack (blockAt y (writtenFrame y l) h q (placeIn Subcode k)) j ≡ subcodePack (kindOf (isFirst y q) (6 * k + j)) (timePack (l .timeCode)) (groupPack (l .binaryGroup))
+  unfolding payload idBytes
+  frame-subcode k j hk hj =
+      ap (λ (b : List ℕ). ssybPack b j) (frame-entry y l h q Subcode k hh hq hk)
+      ∙ subcode-pack (isFirst y q) (timePack (l .timeCode)) (groupPack (l .binaryGroup)) k (idBytes (idOf h q Subcode k)) j refl hj
+
+  pub frame-vs : vauxIn (blockAt y (writtenFrame y l) h q (placeIn Vaux (vauxBlock (vsAt q)))) (vsAt q) ≡ vsPack y
+  unfolding payload idBytes
+  frame-vs =
+      let k : vauxBlock (vsAt q) < 3 = omega (arith, vs-below q) in
+      let e : 15 * (vsAt q / 15) + vsAt q % 15 ≡ vsAt q = omega arith in
+      ap (λ (b : List ℕ). vauxIn b (vsAt q)) (frame-entry y l h q Vaux (vauxBlock (vsAt q)) hh hq k)
+      ∙ subst (λ (i : ℕ). vauxIn (idBytes (idOf h q Vaux (vsAt q / 15)) ++ vauxBytes y q (vsAt q / 15)) i ≡ vauxPack y q i) e
+      (vaux-pack y q (vsAt q / 15) (idBytes (idOf h q Vaux (vsAt q / 15))) (vsAt q % 15) refl (omega arith))
+      ∙ vaux-vs y q
+
+-- the AS of row r of audio channel c's half says the count and the channel's mode
+pub frame-as : (y : System) (l : Lent) (c r q : ℕ) → 0 < c → c < 9 → r < halfOf y → q ≡ halfOf y * halfAt c + r
+    → aauxIn (blockAt y (writtenFrame y l) (difOf c) q (placeIn Audio (asAt q))) ≡ asPack y (l .count) c
+unfolding payload audioBytes idBytes
+frame-as y l c r q c1 c8 hr eq =
+    let half : Half (halfOf y) = half-cases y in
+    let hq : q < sequencesOf y = omega (arith, eq, half-twice y, sequence-below (halfOf y) c r half hr) in
+    let ec : audioAt (halfOf y) (difOf c) q ≡ c = ap (audioAt (halfOf y) (difOf c)) eq ∙ audio-sequence (halfOf y) c r half hr c1 in
+    ap aauxIn (frame-entry y l (difOf c) q Audio (asAt q) (omega arith) hq (omega (arith, as-below q)))
+    ∙ ap (λ (x : ℕ). aauxPack y (l .count) x q (asAt q)) ec
+    ∙ aaux-as y (l .count) c q

@@ -4,7 +4,6 @@ use mathlib.Core.List.{List, [], _∷_}
 use mathlib.Core.Logic.{_⊎_}
 use Prim.Native.Nat.{ℕ, _<_}
 use lib.Dec.{eqb}
-use lib.ListN.{take}
 use Rattle.base.specs.Calls.{firstOf, _when_}
 use Rattle.base.specs.Pick.{pick}
 use Rattle.base.specs.Run.{run}

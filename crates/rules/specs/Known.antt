@@ -4,7 +4,7 @@ use mathlib.Core.List.{List, [], _∷_}
 use Prim.Native.Nat.{ℕ}
 use lib.Dec.{eqb}
 use Rattle.rules.specs.declared.System.{System}
-use Rattle.rules.specs.declared.System.the-variants.{I60, I50, P60, P50}
+use Rattle.rules.specs.declared.System.the-variants.{I60, I50}
 use Rattle.rules.specs.declared.Carried.{Carried}
 use Rattle.rules.specs.declared.Carried.the-variants.{Macroblock, Nothing}
 use Rattle.rules.specs.declared.Section.{Section}
@@ -12,7 +12,7 @@ use Rattle.rules.specs.declared.Section.the-variants.{Audio, Video}
 use Rattle.rules.specs.Places.{codeOf, place, entryAt}
 use Rattle.rules.specs.Ids.{idAt, idBytes}
 use Rattle.rules.specs.Systems.{halfOf}
-use Rattle.rules.specs.Sound.{difOf, sequenceOf, audioOf, byteOf}
+use Rattle.rules.specs.Sound.{sequenceOf, audioOf, byteOf}
 use Rattle.rules.specs.Picture.{slot, carriedIn}
 use Rattle.rules.specs.Faults.{names}
 

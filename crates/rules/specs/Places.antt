@@ -1,6 +1,5 @@
 -- The 150 places of a sequence (document 01, "The four systems").
-use mathlib.Core.Bool.{Bool}
-use mathlib.Core.List.{List, [], _∷_}
+use mathlib.Core.List.{List, _∷_}
 use Prim.Native.Nat.{ℕ, _+_, _*_, _/_, _%_}
 use lib.Dec.{eqb, ltb}
 use lib.ListN.{getD}
@@ -8,7 +7,6 @@ use Rattle.base.specs.Pick.{pick}
 use Rattle.base.specs.Run.{run, tab}
 use Rattle.rules.specs.declared.Section.{Section}
 use Rattle.rules.specs.declared.Section.the-variants.{Header, Subcode, Vaux, Audio, Video}
-use Rattle.rules.specs.declared.BlockNumber.{BlockNumber}
 use Rattle.rules.specs.declared.Place.{Place}
 use Rattle.rules.specs.declared.Entry.{Entry}
 use Rattle.rules.specs.declared.Found.{Found}

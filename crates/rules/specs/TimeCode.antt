@@ -1,7 +1,6 @@
 -- Time code and binary group packs, as they are judged (document 01, "Time code bytes PC1-PC4").
 use mathlib.Core.Bool.{Bool, _&&_, _||_}
 use mathlib.Core.List.{List}
-use mathlib.Core.Path.{_≡_}
 use Prim.Native.Nat.{ℕ, _+_, _*_, _/_, _%_, _<_, _≤_}
 use lib.Dec.{eqb, ltb, leb}
 use Rattle.rules.specs.declared.System.{System}

@@ -1,6 +1,6 @@
 -- The calls `view_number` and `view`: "A block view uses 1, 2, 3 and its own block's 11-15."
 use mathlib.Core.Path.{_≡_}
-use mathlib.Core.Bool.{Bool, not, _||_}
+use mathlib.Core.Bool.{not, _||_}
 use mathlib.Core.List.{List, [], _∷_}
 use Prim.Native.Nat.{ℕ}
 use lib.Dec.{eqb, leb}

@@ -1,5 +1,5 @@
 -- What a written frame holds, block by block in stream order, of what the writer was given.
-use mathlib.Core.List.{List, [], _∷_, _++_}
+use mathlib.Core.List.{List, _++_}
 use Prim.Native.Nat.{ℕ, _+_, _-_, _*_}
 use lib.Dec.{ltb}
 use lib.IntN.{ℤ, pos}

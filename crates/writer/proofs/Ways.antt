@@ -1,23 +1,21 @@
 -- Each way out of the block writers, by what their callees left. Assumes nothing.
 use mathlib.Core.Path.{_≡_, refl, sym, ap, _∙_, subst}
-use mathlib.Core.Bool.{Bool, true, false}
+use mathlib.Core.Bool.{Bool}
 use mathlib.Core.List.{List, [], _∷_, _++_, append-nil}
-use Prim.Native.Nat.{ℕ, _+_, _-_, _*_, _/_, _%_, _^_, _≤_, _<_}
+use Prim.Native.Nat.{ℕ, _+_, _-_, _*_, _%_, _^_, _≤_, _<_}
 use native.Mathlib.Nat.{mod-eq-of-lt, mod-lt, mul-le-mul-left, le-antisymm, zero-add}
 use native.Mathlib.Numerals.{add-one}
 use native.Mathlib.Omega.{arith}
-use lib.Dec.{ltb}
 use lib.IntN.{ℤ, pos}
 use lib.Signed.{mag}
 use mir.Syntax.{w32, w64}
 use mir.Val.{toZ, ofZ, Fits}
 use mir.ValLaws.{toZ-ofZ}
-use lib.ListN.{length, take, drop, getD, set, replicate, length-drop, drop-of-length-le}
+use lib.ListN.{length, take, drop, getD, set, replicate, drop-of-length-le}
 use lib.Seq.{drop-drop, take-all, paste-suc, getD-take, getD-drop}
 use borrow.Author.Tests.{lt-ltb, le-ltb}
-use borrow.Rule.Slice.PartMut.{putMid, midOf, postOf}
-use Rattle.base.specs.Pick.{pick}
-use Rattle.base.specs.Run.{run, Wide}
+use borrow.Rule.Slice.PartMut.{putMid, postOf}
+use Rattle.base.specs.Run.{run}
 use Rattle.base.proofs.Cases.{by-lt}
 use Rattle.base.proofs.Picks.{pick-true, pick-false, pick-either}
 use Rattle.base.proofs.Runs.{run-same, end-within, tab-part}
@@ -29,7 +27,7 @@ use Rattle.rules.specs.declared.Pack.{Pack}
 use Rattle.rules.specs.declared.SubcodePack.{SubcodePack}
 use Rattle.rules.specs.declared.Carried.{Carried}
 use Rattle.rules.specs.declared.Carried.the-variants.{Macroblock, Nothing}
-use Rattle.rules.specs.Systems.{sequencesOf, halfOf, isCount, rateOf}
+use Rattle.rules.specs.Systems.{halfOf}
 use Rattle.rules.specs.Ids.{idBytes}
 use Rattle.rules.specs.Packs.{packBytes, packOf}
 use Rattle.rules.specs.Header.{rateByte, headerBytes}
@@ -38,7 +36,7 @@ use Rattle.rules.specs.Subcode.{kindOf, subcodePack, frByte, ssyb, ssybs, subco
 use Rattle.rules.specs.Vaux.{vauxPack, vauxPacks, vauxBytes}
 use Rattle.rules.specs.Aaux.{aauxPack}
 use Rattle.rules.specs.Samples.{wordFor, bytesOf}
-use Rattle.rules.specs.Sound.{audioAt, rowAt, firstAt, sampleAt}
+use Rattle.rules.specs.Sound.{audioAt, rowAt, firstAt}
 use Rattle.rules.specs.Picture.{slot, carriedIn}
 use Rattle.rules.specs.Written.{Lent, storedWord, wordBytes, audioBytes, carriedBytes}
 use Rattle.rules.specs.Write.{lent}

@@ -1,8 +1,6 @@
 -- `written::print_sum` is safe and ends: both sums stay below 65,521. Assumes nothing.
-use mathlib.Core.Path.{_≡_, refl}
-use Prim.Native.Nat.{_-_, _≤_, _<_}
-use native.Mathlib.Omega.{arith}
-use lib.ListN.{length, length-set}
+use Prim.Native.Nat.{_-_, _<_}
+use lib.ListN.{length}
 use borrow.Author.Needs.{needs}
 use Rattle.written.proofs.print_sum.Statement.{statement}
 use Rattle.written.proofs.print_sum.Tie as tie

@@ -1,7 +1,7 @@
 -- `packs::vaux::vaux_pack` meets its contract: one lemma for each way out. Assumes nothing.
 use native.Mathlib.Omega.{arith}
 use borrow.Author.Needs.{needs}
-use Rattle.rules.proofs.Packs.{rate-below, stype-below}
+use Rattle.rules.proofs.Systems.{rate-below, stype-below}
 use Rattle.rules.proofs.Vaux.{vs-below}
 use Rattle.packs.proofs.Ways.{vs-way, vsc-way, vaux-none-way}
 use Rattle.packs.proofs.vaux.vaux_pack.Statement.{statement}

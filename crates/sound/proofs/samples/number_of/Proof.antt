@@ -1,5 +1,5 @@
 -- `sound::samples::number_of` meets its contract: a level, or 32,768. Assumes nothing.
-use mathlib.Core.Path.{_≡_, refl, sym, ap, _∙_}
+use mathlib.Core.Path.{sym, ap}
 use mir.ValLaws.{toZ-ofZ}
 use mir.Syntax.{w16, w32}
 use mir.Val.{SFits}

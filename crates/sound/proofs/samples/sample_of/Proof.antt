@@ -1,5 +1,5 @@
 -- `sound::samples::sample_of` meets its contract: 8000h is lost, any other word a level. Assumes nothing.
-use mathlib.Core.Path.{_≡_, refl}
+use mathlib.Core.Path.{refl}
 use mir.Syntax.{w16}
 use mir.ValLaws.{toZ-ofZ}
 use borrow.Author.Tests.{eq-eqb, ne-eqb}

@@ -1,7 +1,7 @@
 -- `sound::samples::word_of` meets its contract: 8001h where a level's own bits say lost. Assumes nothing.
-use mathlib.Core.Path.{_≡_, refl, sym, ap, _∙_}
+use mathlib.Core.Path.{_≡_, refl}
 use mir.Syntax.{w16}
-use mir.Val.{ofZ, SFits}
+use mir.Val.{ofZ}
 use mir.ValLaws.{toZ-ofZ}
 use borrow.Author.Tests.{eq-eqb, ne-eqb}
 use borrow.Author.Needs.{needs}
