@@ -9,8 +9,7 @@ use lib.Dec.{eqb, ltb}
 use borrow.Author.Tests.{eq-eqb, ne-eqb, eqb-true, lt-ltb, ltb-true}
 use Rattle.base.specs.Pick.{pick}
 use Rattle.base.specs.Run.{run, tab}
-use Rattle.base.proofs.Picks.{pick-true, pick-false, pick-either}
-use Rattle.base.proofs.Picks.{both-held}
+use Rattle.base.proofs.Picks.{pick-true, pick-false, pick-either, both-held}
 use Rattle.rules.specs.declared.System.{System}
 use Rattle.rules.specs.declared.System.the-variants.{I60, I50, P60, P50}
 use Rattle.rules.specs.declared.Pack.{Pack}

@@ -8,8 +8,7 @@ use borrow.Author.Tests.{ltb-true, ltb-false, eqb-true, lt-ltb, le-ltb, eq-eqb, 
 use Rattle.base.specs.Pick.{pick}
 use Rattle.base.specs.Calls.{ExactlyOne}
 use Rattle.base.proofs.Cases.{by-lt}
-use Rattle.base.proofs.Picks.{pick-true, pick-false, pick-either}
-use Rattle.base.proofs.Picks.{both-held}
+use Rattle.base.proofs.Picks.{pick-true, pick-false, pick-either, both-held}
 use Rattle.base.proofs.Below.{below, below-at, both-left, both-right}
 use Rattle.rules.specs.declared.System.{System}
 use Rattle.rules.specs.declared.System.the-variants.{I60, I50, P60, P50}

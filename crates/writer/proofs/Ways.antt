@@ -8,11 +8,11 @@ use native.Mathlib.Numerals.{add-one}
 use native.Mathlib.Omega.{arith}
 use lib.IntN.{ℤ, pos}
 use lib.Signed.{mag}
+use lib.ListN.{length, take, drop, getD, set, replicate, drop-of-length-le}
+use lib.Seq.{drop-drop, take-all, paste-suc, getD-take, getD-drop}
 use mir.Syntax.{w32, w64}
 use mir.Val.{toZ, ofZ, Fits}
 use mir.ValLaws.{toZ-ofZ}
-use lib.ListN.{length, take, drop, getD, set, replicate, drop-of-length-le}
-use lib.Seq.{drop-drop, take-all, paste-suc, getD-take, getD-drop}
 use borrow.Author.Tests.{lt-ltb, le-ltb}
 use borrow.Rule.Slice.PartMut.{putMid, postOf}
 use Rattle.base.specs.Run.{run}

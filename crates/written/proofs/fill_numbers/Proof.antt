@@ -9,8 +9,8 @@ use mir.Syntax.{w32}
 use mir.Val.{toZ}
 use mir.ValLaws.{toZ-pos}
 use borrow.Author.Tests.{lt-ltb, le-ltb}
-use Rattle.base.proofs.Cases.{by-lt}
 use borrow.Author.Needs.{needs}
+use Rattle.base.proofs.Cases.{by-lt}
 use Rattle.written.proofs.fill_numbers.Statement.{statement}
 use Rattle.written.proofs.fill_numbers.Tie as tie
 

@@ -1,7 +1,7 @@
 -- `writer::audio::audio_at` meets its contract: it is 8 at most. Assumes nothing.
 use native.Mathlib.Omega.{arith}
-use Rattle.rules.proofs.Sound.{audio-within}
 use borrow.Author.Needs.{needs}
+use Rattle.rules.proofs.Sound.{audio-within}
 use Rattle.writer.proofs.audio.audio_at.Statement.{statement}
 use Rattle.writer.proofs.audio.audio_at.Tie as tie
 

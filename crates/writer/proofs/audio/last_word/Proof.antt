@@ -1,6 +1,6 @@
 -- `writer::audio::last_word` meets its contract: the word, or 0 past the last sample. Assumes nothing.
-use Rattle.writer.proofs.Ways.{word-here, word-past}
 use borrow.Author.Needs.{needs}
+use Rattle.writer.proofs.Ways.{word-here, word-past}
 use Rattle.writer.proofs.audio.last_word.Statement.{statement}
 use Rattle.writer.proofs.audio.last_word.Tie as tie
 

@@ -1,12 +1,12 @@
 -- `writer::audio::put_words` meets its contract: the first words are written, and t is the next sample. Assumes nothing.
-use borrow.Author.Needs.{needs}
 use mathlib.Core.Path.{_≡_, refl}
 use Prim.Native.Nat.{_+_, _-_, _*_, _≤_}
 use native.Mathlib.Omega.{arith}
 use lib.ListN.{length}
+use borrow.Author.Needs.{needs}
 use Rattle.base.proofs.Filling.{Filled, filled-none}
-use Rattle.writer.proofs.Ways.{sample-within, sample-next, sample-fits, word-for-below, sample-word-below, words-turn, words-done}
 use Rattle.writer.specs.Words.{wordPair}
+use Rattle.writer.proofs.Ways.{sample-within, sample-next, sample-fits, word-for-below, sample-word-below, words-turn, words-done}
 use Rattle.writer.proofs.audio.put_words.Statement.{statement}
 use Rattle.writer.proofs.audio.put_words.Tie as tie
 

@@ -1,6 +1,6 @@
 -- `writer::audio::samples_of` meets its contract: the part is within the sound. Assumes nothing.
-use Rattle.writer.proofs.Ways.{samples-lent, samples-within, samples-fit, samples-end-fits, samples-bytes-fit}
 use borrow.Author.Needs.{needs}
+use Rattle.writer.proofs.Ways.{samples-lent, samples-within, samples-fit, samples-end-fits, samples-bytes-fit}
 use Rattle.writer.proofs.audio.samples_of.Statement.{statement}
 use Rattle.writer.proofs.audio.samples_of.Tie as tie
 

@@ -1,6 +1,6 @@
 -- `writer::audio::write_audio` meets its contract: the ID, the pack, and the words of the channel. Assumes nothing.
-use Rattle.writer.proofs.Ways.{channel-asked, samples-asked, words-asked, audio-done}
 use borrow.Author.Needs.{needs}
+use Rattle.writer.proofs.Ways.{channel-asked, samples-asked, words-asked, audio-done}
 use Rattle.writer.proofs.audio.write_audio.Statement.{statement}
 use Rattle.writer.proofs.audio.write_audio.Tie as tie
 

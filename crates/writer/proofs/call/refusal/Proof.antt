@@ -1,6 +1,6 @@
 -- `writer::call::refusal` meets its contract: each number where its row is the first that holds. Assumes nothing.
-use Rattle.writer.proofs.Whole.{way-1, way-2, way-3, way-4, way-31, way-32, way-0}
 use borrow.Author.Needs.{needs}
+use Rattle.writer.proofs.Whole.{way-1, way-2, way-3, way-4, way-31, way-32, way-0}
 use Rattle.writer.proofs.call.refusal.Statement.{statement}
 use Rattle.writer.proofs.call.refusal.Tie as tie
 

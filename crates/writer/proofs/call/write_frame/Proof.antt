@@ -1,7 +1,7 @@
 -- `writer::call::write_frame` meets its contract: a refusal, or the frame. Assumes nothing.
+use borrow.Author.Needs.{needs}
 use Rattle.rules.proofs.Write.{write-stopped}
 use Rattle.writer.proofs.Whole.{frame-asked, no-system, frame-left}
-use borrow.Author.Needs.{needs}
 use Rattle.writer.proofs.call.write_frame.Statement.{statement}
 use Rattle.writer.proofs.call.write_frame.Tie as tie
 

@@ -1,11 +1,10 @@
 -- `writer::frame::fill_frame` meets its contract: the first DIF channels are written, and the rest is as it was. Assumes nothing.
-use borrow.Author.Needs.{needs}
 use mathlib.Core.Path.{_≡_, refl}
-use Prim.Native.Nat.{_-_, _≤_}
+use Prim.Native.Nat.{_-_, _≤_, _*_}
 use native.Mathlib.Omega.{arith}
 use lib.ListN.{length}
+use borrow.Author.Needs.{needs}
 use Rattle.base.proofs.Filling.{Filled}
-use Prim.Native.Nat.{_*_}
 use Rattle.rules.specs.Systems.{sequencesOf}
 use Rattle.rules.specs.Written.{writtenChannel}
 use Rattle.rules.specs.Write.{lent}

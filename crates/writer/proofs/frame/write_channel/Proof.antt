@@ -1,9 +1,9 @@
 -- `writer::frame::write_channel` meets its contract: the first sequences are written, and the rest is as it was. Assumes nothing.
-use borrow.Author.Needs.{needs}
 use mathlib.Core.Path.{_≡_, refl}
 use Prim.Native.Nat.{_-_, _≤_}
 use native.Mathlib.Omega.{arith}
 use lib.ListN.{length}
+use borrow.Author.Needs.{needs}
 use Rattle.base.proofs.Filling.{Filled, filled-none}
 use Rattle.rules.specs.Systems.{sequencesOf}
 use Rattle.rules.specs.Written.{writtenSequence}

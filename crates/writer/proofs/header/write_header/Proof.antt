@@ -1,6 +1,6 @@
 -- `writer::header::write_header` meets its contract: ones, the ID, and the listed bytes. Assumes nothing.
-use Rattle.writer.proofs.Ways.{header-done}
 use borrow.Author.Needs.{needs}
+use Rattle.writer.proofs.Ways.{header-done}
 use Rattle.writer.proofs.header.write_header.Statement.{statement}
 use Rattle.writer.proofs.header.write_header.Tie as tie
 

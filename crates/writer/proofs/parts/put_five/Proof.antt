@@ -1,8 +1,8 @@
 -- `writer::parts::put_five` meets its contract: the bytes in their order. Assumes nothing.
 use native.Mathlib.Omega.{arith}
 use lib.ListN.{length-set}
-use Rattle.writer.proofs.Ways.{five-set}
 use borrow.Author.Needs.{needs}
+use Rattle.writer.proofs.Ways.{five-set}
 use Rattle.writer.proofs.parts.put_five.Statement.{statement}
 use Rattle.writer.proofs.parts.put_five.Tie as tie
 

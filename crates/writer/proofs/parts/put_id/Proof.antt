@@ -1,6 +1,6 @@
 -- `writer::parts::put_id` meets its contract: the three bytes of the ID. Assumes nothing.
-use Rattle.writer.proofs.Ways.{id-put}
 use borrow.Author.Needs.{needs}
+use Rattle.writer.proofs.Ways.{id-put}
 use Rattle.writer.proofs.parts.put_id.Statement.{statement}
 use Rattle.writer.proofs.parts.put_id.Tie as tie
 

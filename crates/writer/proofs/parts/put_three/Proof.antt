@@ -1,6 +1,6 @@
 -- `writer::parts::put_three` meets its contract: the bytes in their order. Assumes nothing.
-use Rattle.writer.proofs.Ways.{three-set}
 use borrow.Author.Needs.{needs}
+use Rattle.writer.proofs.Ways.{three-set}
 use Rattle.writer.proofs.parts.put_three.Statement.{statement}
 use Rattle.writer.proofs.parts.put_three.Tie as tie
 

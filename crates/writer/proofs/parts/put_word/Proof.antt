@@ -1,6 +1,6 @@
 -- `writer::parts::put_word` meets its contract: the high byte first. Assumes nothing.
-use Rattle.writer.proofs.Ways.{two-set}
 use borrow.Author.Needs.{needs}
+use Rattle.writer.proofs.Ways.{two-set}
 use Rattle.writer.proofs.parts.put_word.Statement.{statement}
 use Rattle.writer.proofs.parts.put_word.Tie as tie
 

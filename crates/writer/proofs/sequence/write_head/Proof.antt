@@ -1,6 +1,6 @@
 -- `writer::sequence::write_head` meets its contract: the header, then the subcode blocks. Assumes nothing.
-use Rattle.writer.proofs.Whole.{head-done}
 use borrow.Author.Needs.{needs}
+use Rattle.writer.proofs.Whole.{head-done}
 use Rattle.writer.proofs.sequence.write_head.Statement.{statement}
 use Rattle.writer.proofs.sequence.write_head.Tie as tie
 

@@ -1,6 +1,6 @@
 -- `writer::sequence::write_row` meets its contract: the audio block, then the video blocks. Assumes nothing.
-use Rattle.writer.proofs.Whole.{row-done}
 use borrow.Author.Needs.{needs}
+use Rattle.writer.proofs.Whole.{row-done}
 use Rattle.writer.proofs.sequence.write_row.Statement.{statement}
 use Rattle.writer.proofs.sequence.write_row.Tie as tie
 

@@ -1,9 +1,9 @@
 -- `writer::sequence::write_rows` meets its contract: the first rows are written, and the rest is as it was. Assumes nothing.
-use borrow.Author.Needs.{needs}
 use mathlib.Core.Path.{_≡_, refl}
 use Prim.Native.Nat.{_-_, _≤_}
 use native.Mathlib.Omega.{arith}
 use lib.ListN.{length}
+use borrow.Author.Needs.{needs}
 use Rattle.base.proofs.Filling.{Filled, filled-none}
 use Rattle.rules.specs.Write.{lent}
 use Rattle.writer.specs.Rows.{rowBlocks}

@@ -1,6 +1,6 @@
 -- `writer::sequence::write_sequence` meets its contract: three parts, one after the other. Assumes nothing.
-use Rattle.writer.proofs.Whole.{smaller-asked, sequence-done}
 use borrow.Author.Needs.{needs}
+use Rattle.writer.proofs.Whole.{smaller-asked, sequence-done}
 use Rattle.writer.proofs.sequence.write_sequence.Statement.{statement}
 use Rattle.writer.proofs.sequence.write_sequence.Tie as tie
 

@@ -1,9 +1,9 @@
 -- `writer::sequence::write_vauxes` meets its contract: the first blocks are written, and the rest is as it was. Assumes nothing.
-use borrow.Author.Needs.{needs}
 use mathlib.Core.Path.{_≡_, refl}
 use Prim.Native.Nat.{_-_, _≤_}
 use native.Mathlib.Omega.{arith}
 use lib.ListN.{length}
+use borrow.Author.Needs.{needs}
 use Rattle.base.proofs.Filling.{Filled, filled-none}
 use Rattle.writer.proofs.Whole.{vaux-in, vauxes-turn, vauxes-done}
 use Rattle.writer.proofs.sequence.write_vauxes.Statement.{statement}

@@ -1,6 +1,6 @@
 -- `writer::subcode::put_ssyb` meets its contract: three bytes, then the pack of its position. Assumes nothing.
-use Rattle.writer.proofs.Ways.{ssyb-done}
 use borrow.Author.Needs.{needs}
+use Rattle.writer.proofs.Ways.{ssyb-done}
 use Rattle.writer.proofs.subcode.put_ssyb.Statement.{statement}
 use Rattle.writer.proofs.subcode.put_ssyb.Tie as tie
 

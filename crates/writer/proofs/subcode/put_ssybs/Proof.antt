@@ -1,9 +1,9 @@
 -- `writer::subcode::put_ssybs` meets its contract: the first SSYBs are written, and the rest is as it was. Assumes nothing.
-use borrow.Author.Needs.{needs}
 use mathlib.Core.Path.{_≡_, refl}
 use Prim.Native.Nat.{_-_, _≤_}
 use native.Mathlib.Omega.{arith}
 use lib.ListN.{length}
+use borrow.Author.Needs.{needs}
 use Rattle.base.proofs.Filling.{Filled, filled-none}
 use Rattle.writer.proofs.Ways.{ssyb-at, ssybs-turn, ssybs-done}
 use Rattle.writer.proofs.subcode.put_ssybs.Statement.{statement}

@@ -1,6 +1,6 @@
 -- `writer::subcode::write_subcode` meets its contract: ones, the ID, and six SSYBs. Assumes nothing.
-use Rattle.writer.proofs.Ways.{subcode-done}
 use borrow.Author.Needs.{needs}
+use Rattle.writer.proofs.Ways.{subcode-done}
 use Rattle.writer.proofs.subcode.write_subcode.Statement.{statement}
 use Rattle.writer.proofs.subcode.write_subcode.Tie as tie
 

@@ -1,6 +1,6 @@
 -- `writer::vaux::write_vaux` meets its contract: ones, the ID, and fifteen packs. Assumes nothing.
-use Rattle.writer.proofs.Ways.{vaux-done}
 use borrow.Author.Needs.{needs}
+use Rattle.writer.proofs.Ways.{vaux-done}
 use Rattle.writer.proofs.vaux.write_vaux.Statement.{statement}
 use Rattle.writer.proofs.vaux.write_vaux.Tie as tie
 

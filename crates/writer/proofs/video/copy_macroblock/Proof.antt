@@ -1,10 +1,10 @@
 -- `writer::video::copy_macroblock` meets its contract: the first bytes are copied, and the rest is as it was. Assumes nothing.
-use borrow.Author.Needs.{needs}
 use mathlib.Core.Path.{_≡_, refl}
 use mathlib.Core.List.{_++_}
 use Prim.Native.Nat.{_-_, _≤_}
 use native.Mathlib.Omega.{arith}
 use lib.ListN.{length, take, drop, length-set}
+use borrow.Author.Needs.{needs}
 use Rattle.writer.proofs.Ways.{copy-next, copy-done}
 use Rattle.writer.proofs.video.copy_macroblock.Statement.{statement}
 use Rattle.writer.proofs.video.copy_macroblock.Tie as tie

@@ -1,6 +1,6 @@
 -- `writer::video::write_video` meets its contract: the ID, and what the slot carries. Assumes nothing.
-use Rattle.writer.proofs.Ways.{macroblock-within, macroblock-done, empty-done}
 use borrow.Author.Needs.{needs}
+use Rattle.writer.proofs.Ways.{macroblock-within, macroblock-done, empty-done}
 use Rattle.writer.proofs.video.write_video.Statement.{statement}
 use Rattle.writer.proofs.video.write_video.Tie as tie
 
