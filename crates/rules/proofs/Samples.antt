@@ -39,11 +39,21 @@ silence = refl
 
 -- ---- bytesOf, wordAt: "high byte first"
 
+pub bytes-high : bytesOf 0x1234 ≡ 0x12 ∷ 0x34 ∷ []
+bytes-high = refl
+
 pub bytes-word : (w : ℕ) → wordAt (bytesOf w) 0 ≡ w
 bytes-word w = div-add-mod' w 256
 
-pub bytes-high : bytesOf 0x1234 ≡ 0x12 ∷ 0x34 ∷ []
-bytes-high = refl
+-- ---- sampleIn: "outside -32,768 to 32,768" is no sample
+
+pub range-ends : (inRange (pos 32768) ≡ true) × (inRange (negsuc 32767) ≡ true) × (inRange (pos 32769) ≡ false) × (inRange (negsuc 32768) ≡ false)
+unfolding inRange
+range-ends = (refl, refl, refl, refl)
+
+pub sample-none : (z : ℤ) → inRange z ≡ false → sampleIn z ≡ NoSample
+unfolding sampleIn pick
+sample-none z e = rw e refl
 
 -- ---- wordFor: a number comes back, but -32,768 as -32,767
 
@@ -98,16 +108,6 @@ back-least = refl
 pub back-other : (n : ℕ) → (backOf (pos n) ≡ pos n) × (n < 32767 → backOf (negsuc n) ≡ negsuc n)
 unfolding backOf pick
 back-other n = (refl, λ l. rw (lt-leb 32767 n l) refl)
-
--- ---- sampleIn: "outside -32,768 to 32,768" is no sample
-
-pub range-ends : (inRange (pos 32768) ≡ true) × (inRange (negsuc 32767) ≡ true) × (inRange (pos 32769) ≡ false) × (inRange (negsuc 32768) ≡ false)
-unfolding inRange
-range-ends = (refl, refl, refl, refl)
-
-pub sample-none : (z : ℤ) → inRange z ≡ false → sampleIn z ≡ NoSample
-unfolding sampleIn pick
-sample-none z e = rw e refl
 
 -- ---- allInRange
 

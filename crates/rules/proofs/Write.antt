@@ -118,9 +118,6 @@ pub write-stopped : (k : ℕ) (l : Lent) (frame : List ℕ) (r : ℕ) → r ≡ 
 unfolding writeLeft
 write-stopped k l frame r e d = record { answer = e; left = sym (pick-false _ _ (ne-eqb _ 0 (λ z. d (e ∙ z)))) }
 
-pub write-none : (k : ℕ) (l : Lent) (frame : List ℕ) → systemOf k ≡ NoSystem → Wrote k l frame 1 frame
-write-none k l frame e = write-stopped k l frame 1 (write-1 k l (length frame) e) (λ z. omega arith)
-
 pub write-done : (k : ℕ) (y : System) (l : Lent) (frame frame′ : List ℕ) (r : ℕ) → systemOf k ≡ Known y → r ≡ writeNumber k l (length frame) → r ≡ 0 → frame′ ≡ writtenFrame y l
     → Wrote k l frame 0 frame′
 unfolding writeLeft frameFor

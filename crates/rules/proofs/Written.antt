@@ -74,7 +74,7 @@ block-wide y l h q p = entry-block-length y l h q (entryAt (place p))
 
 pub sequence-wide : (y : System) (l : Lent) (h : ℕ) → Wide 12000 (writtenSequence y l h)
 unfolding writtenSequence
-sequence-wide y l h q = length-run 80 (writtenBlock y l h q) (block-wide y l h q) 150
+sequence-wide y l h q = length-run 80 _ (block-wide y l h _) 150
 
 pub channel-wide : (y : System) (l : Lent) → Wide (sequencesOf y * 12000) (writtenChannel y l)
 unfolding writtenChannel

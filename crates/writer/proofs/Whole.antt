@@ -36,7 +36,7 @@ use Rattle.rules.specs.Written.{Lent, audioBytes, carriedBytes, videoBytes, pay
 use Rattle.rules.specs.Write.{lent, lengthsOk, writeNumber, Wrote}
 use Rattle.rules.proofs.Systems.{sequences-le}
 use Rattle.rules.proofs.Written.{block-entry, block-wide, sequence-wide, channel-wide}
-use Rattle.rules.proofs.Write.{write-1, write-2, write-3, write-4, write-31, write-32, write-0, taken-takes, write-none, write-done}
+use Rattle.rules.proofs.Write.{write-1, write-2, write-3, write-4, write-31, write-32, write-0, taken-takes, write-stopped, write-done}
 use Rattle.writer.specs.Asked.{AudioAsked, VideoAsked, PartAsked, RowAsked, ChannelPartAsked, FrameAsked}
 use Rattle.writer.specs.Rows.{subcodeBlocks, headBlocks, vauxBlocks, rowVideo, rowBlocks, allRows}
 
@@ -345,8 +345,14 @@ frame-asked k n y r l frame er ey en z =
     let t = taken-takes k l (length frame) y (sym er ∙ ey) (sym en ∙ z) in
     record { long = t .frame; lengths = record { counts = t .counts; sounds = t .sounds; pictures = t .pictures } }
 
-pub no-system : (k : ℕ) (l : Lent) (frame : List ℕ) (r : SystemNumber) → r ≡ systemOf k → r ≡ NoSystem → Wrote k l frame 1 frame
-no-system k l frame r er en = write-none k l frame (sym er ∙ en)
+-- a refusal, as the call leaves it
+pub number-stops : (k n : ℕ) (l : Lent) (frame : List ℕ) → n ≡ writeNumber k l (length frame) → 0 < n → Wrote k l frame n frame
+number-stops k n l frame en some = write-stopped k l frame n en (λ z. omega arith)
+
+pub no-system : (k n : ℕ) (l : Lent) (frame : List ℕ) (r : SystemNumber) → r ≡ systemOf k → r ≡ NoSystem → n ≡ writeNumber k l (length frame) → Wrote k l frame n frame
+no-system k n l frame r er e en =
+    let one : 1 ≡ writeNumber k l (length frame) = write-1 k l (length frame) (sym er ∙ e) in
+    number-stops k n l frame en (omega arith)
 
 pub frame-left : (k n : ℕ) (y : System) (r : SystemNumber) (l : Lent) (frame frame′ : List ℕ) → r ≡ systemOf k → r ≡ Known y → n ≡ writeNumber k l (length frame) → n ≡ 0
     → frame′ ≡ writtenFrame y l → Wrote k l frame 0 frame′

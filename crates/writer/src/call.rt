@@ -86,7 +86,7 @@ pub fn write_frame(
         return number;
     }
     let SystemNumber::Known(y) = layout::system_of(system) else {
-        return 1;
+        return number;
     };
     frame::fill_frame(frame, y, count, sound, macroblocks, time_code, binary_group);
     0

@@ -1,7 +1,7 @@
 -- `writer::call::write_frame` meets its contract: a refusal, or the frame. Assumes nothing.
+use native.Mathlib.Omega.{arith}
 use borrow.Author.Needs.{needs}
-use Rattle.rules.proofs.Write.{write-stopped}
-use Rattle.writer.proofs.Whole.{frame-asked, no-system, frame-left}
+use Rattle.writer.proofs.Whole.{number-stops, no-system, frame-asked, frame-left}
 use Rattle.writer.proofs.call.write_frame.Statement.{statement}
 use Rattle.writer.proofs.call.write_frame.Tie as tie
 
@@ -9,7 +9,7 @@ refusal-requires : tie.Need-refusal-requires
 refusal-requires c κs = search needs
 
 returns : tie.Need-returns
-returns c = search (write-stopped, needs)
+returns c = number-stops _ _ _ _ (c .before .refusal .ensures) (omega (arith, c .if1 .taken))
 
 system-of-requires : tie.Need-system-of-requires
 system-of-requires c κs = search needs
