@@ -15,7 +15,7 @@ use crate::parts;
 use rules::BlockId;
 use rules::System;
 
-// The word of sample t of a channel; 0 from the count on.
+// The word of sample t of an audio channel; 0 from the count on.
 fn last_word(samples: &[i32], t: usize) -> u32
     ensures { λ r. ⌜ r ≡ sampleWord (now (samples .entry)) t ⌝ }
 {
