@@ -1,11 +1,11 @@
 -- Laws of packs, of the header block and of time codes. Assumes nothing.
 use mathlib.Core.Path.{_≡_, refl, ap, _∙_}
 use mathlib.Core.Bool.{true, false, _&&_}
-use mathlib.Core.List.{List, _++_}
+use mathlib.Core.List.{List, [], _∷_, _++_}
 use Prim.Native.Nat.{ℕ, zero, suc, _+_, _*_, _/_, _%_, _<_}
 use native.Mathlib.Omega.{arith}
 use lib.Dec.{eqb, ltb, leb}
-use lib.ListN.{length, getD, List·getD-append}
+use lib.ListN.{length, drop, getD, replicate, List·getD-append}
 use lib.Seq.{getD-append-add}
 use borrow.Author.Tests.{eq-eqb, eqb-true, lt-ltb, ltb-true, le-leb, leb-true}
 use Rattle.base.specs.Pick.{pick}
@@ -16,7 +16,7 @@ use Rattle.rules.specs.declared.System.{System}
 use Rattle.rules.specs.declared.System.the-variants.{I60, I50, P60, P50}
 use Rattle.rules.specs.declared.Pack.{Pack}
 use Rattle.rules.specs.Systems.{rateOf}
-use Rattle.rules.specs.Packs.{packIn, packBytes}
+use Rattle.rules.specs.Packs.{packIn, packBytes, noPack}
 use Rattle.rules.specs.Header.{headerBytes, dsfOk, flagged}
 use Rattle.rules.specs.TimeCode.{valueIn, digitsOk, lastFrame, clockOk, timeOk, groupOk, bitTaken, timeTaken, Digits, Clock}
 
@@ -24,6 +24,10 @@ use Rattle.rules.specs.TimeCode.{valueIn, digitsOk, lastFrame, clockOk, 
 
 pub pack-bytes : (p : Pack) → packIn (packBytes p) 0 ≡ p
 pack-bytes p = refl
+
+-- "Unlisted bytes and bits are written as ones", here where no pack is, and below after a block's last
+pub none-ones : packBytes noPack ≡ 0xFF ∷ 0xFF ∷ 0xFF ∷ 0xFF ∷ 0xFF ∷ []
+none-ones = refl
 
 -- a byte behind an ID
 pub behind-id : (id rest : List ℕ) (i : ℕ) → length id ≡ 3 → getD (id ++ rest) (3 + i) 0 ≡ getD rest i 0
@@ -48,6 +52,10 @@ module _ (id rest : List ℕ) (w : ℕ) (f : ℕ → List ℕ) (s : Wide w f) (n
 pub header-length : (y : System) → length (headerBytes y) ≡ 77
 unfolding headerBytes
 header-length y = refl
+
+pub header-rest : (y : System) → drop 5 (headerBytes y) ≡ replicate 72 0xFF
+unfolding headerBytes
+header-rest y = refl
 
 module _ (id : List ℕ) (three : length id ≡ 3) where
   -- "Byte 3: bit 7 DSF (0 for 60 Hz), bit 6 zero."

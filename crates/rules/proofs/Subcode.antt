@@ -5,7 +5,8 @@ use mathlib.Core.List.{List, _++_}
 use Prim.Native.Nat.{ℕ, _+_, _*_, _/_, _%_, _≤_, _<_}
 use native.Mathlib.Omega.{arith}
 use lib.Dec.{T, eqb}
-use lib.ListN.{length, getD, replicate, length-append, List·getD-eq-default}
+use lib.ListN.{length, drop, getD, replicate, length-append, List·getD-eq-default}
+use lib.Seq.{drop-at}
 use borrow.Author.Tests.{ne-eqb, lt-ltb, ltb-true}
 use Rattle.base.specs.Pick.{pick}
 use Rattle.base.specs.Run.{run, tab, Wide}
@@ -125,6 +126,10 @@ module _ (first : Bool) (time group : Pack) (k : ℕ) where
   pub subcode-length : length (subcodeBytes first time group k) ≡ 77
   unfolding subcodeBytes ssybs
   subcode-length = length-append (run six 6) (replicate 29 0xFF) ∙ rw (length-run 8 six six-wide 6) refl
+
+  pub subcode-rest : drop 48 (subcodeBytes first time group k) ≡ replicate 29 0xFF
+  unfolding subcodeBytes ssybs
+  subcode-rest = drop-at (run six 6) (replicate 29 0xFF) 48 (length-run 8 six six-wide 6)
 
   -- "SSYB 0-5 in SC0, 6-11 in SC1, eight bytes each from byte 3", the pack in its last five
   pub subcode-pack : (id : List ℕ) (j : ℕ) → length id ≡ 3 → j < 6

@@ -5,7 +5,8 @@ use mathlib.Core.List.{List, [], _∷_, _++_}
 use Prim.Native.Nat.{ℕ, _+_, _-_, _*_, _/_, _%_, _<_}
 use native.Mathlib.Omega.{arith}
 use lib.Dec.{eqb}
-use lib.ListN.{length, length-append}
+use lib.ListN.{length, length-append, drop}
+use lib.Seq.{drop-at}
 use borrow.Author.Tests.{eq-eqb, ne-eqb, eqb-true}
 use Rattle.base.specs.Pick.{pick}
 use Rattle.base.specs.Run.{run, Wide}
@@ -130,6 +131,10 @@ module _ (y : System) (q k : ℕ) where
   pub vaux-length : length (vauxBytes y q k) ≡ 77
   unfolding vauxBytes vauxPacks
   vaux-length = length-append (run fifteen 15) (0xFF ∷ 0xFF ∷ []) ∙ rw (length-run 5 fifteen fifteen-wide 15) refl
+
+  pub vaux-rest : drop 75 (vauxBytes y q k) ≡ 0xFF ∷ 0xFF ∷ []
+  unfolding vauxBytes vauxPacks
+  vaux-rest = drop-at (run fifteen 15) (0xFF ∷ 0xFF ∷ []) 75 (length-run 5 fifteen fifteen-wide 15)
 
   -- "45 packs, 15 to a block, five bytes each from byte 3"
   pub vaux-pack : (id : List ℕ) (j : ℕ) → length id ≡ 3 → j < 15 → vauxIn (id ++ vauxBytes y q k) (15 * k + j) ≡ vauxPack y q (15 * k + j)

@@ -1,10 +1,12 @@
 -- `sound::samples::sample_of` meets its contract: 8000h is lost, any other word a level. Assumes nothing.
-use mathlib.Core.Path.{refl}
+use mathlib.Core.Path.{_≡_, refl}
+use Prim.Native.Nat.{ℕ}
 use mir.Syntax.{w16}
 use mir.ValLaws.{toZ-ofZ}
 use borrow.Author.Tests.{eq-eqb, ne-eqb}
 use borrow.Author.Needs.{needs, sfits-of}
 use Rattle.base.specs.Pick.{pick}
+use Rattle.rules.specs.declared.Sample.the-variants.{Lost}
 use Rattle.rules.specs.Samples.{sampleOf}
 use Rattle.sound.proofs.samples.sample_of.Statement.{statement}
 use Rattle.sound.proofs.samples.sample_of.Tie as tie
@@ -18,9 +20,13 @@ add-word c = search needs
 level-of-requires : tie.Need-level-of-requires
 level-of-requires c κs = search needs
 
-returns : tie.Need-returns
+-- lost, over any word
+lost-is : (w : ℕ) → w ≡ 0x8000 → Lost ≡ sampleOf w
 unfolding sampleOf pick
-returns c = rw (eq-eqb _ _ (c .if1 .taken)) refl
+lost-is w e = rw (eq-eqb w 0x8000 e) refl
+
+returns : tie.Need-returns
+returns c = search (lost-is, needs)
 
 returns-2 : tie.Need-returns-2
 unfolding sampleOf pick
