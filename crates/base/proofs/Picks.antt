@@ -1,11 +1,12 @@
 -- Laws of `pick` and of a refusal table. Assumes nothing.
-use mathlib.Core.Path.{_≡_, refl}
+use mathlib.Core.Path.{_≡_, refl, sym, _∙_}
 use mathlib.Core.Bool.{Bool, true, false, _&&_, _||_}
-use mathlib.Core.List.{List, _∷_}
+use mathlib.Core.List.{List, [], _∷_, _++_}
 use Prim.Native.Nat.{ℕ, suc}
 use native.Mathlib.Omega.{arith}
 use Rattle.base.specs.Pick.{pick}
 use Rattle.base.specs.Calls.{Refusal, _when_, firstOf}
+use Rattle.base.proofs.Cases.{by-bool}
 
 -- ---- pick
 
@@ -45,6 +46,12 @@ pub first-zero : (b : Bool) (k : ℕ) (rs : List Refusal) → firstOf (suc k whe
 unfolding firstOf pick
 first-zero true k rs h = absurd (omega arith)
 first-zero false k rs h = (refl, h)
+
+-- a refusal of the first rows stands, whatever rows follow
+pub first-stops : (rs more : List Refusal) → (firstOf rs ≡ 0 → ⊥) → firstOf (rs ++ more) ≡ firstOf rs
+unfolding firstOf
+first-stops [] more d = absurd (d refl)
+first-stops (r ∷ rs) more d = by-bool (r .holds) (λ e. pick-true _ _ e ∙ sym (pick-true _ _ e)) (λ e. pick-false _ _ e ∙ first-stops rs more (λ z. d (pick-false _ _ e ∙ z)) ∙ sym (pick-false _ _ e))
 
 -- ---- neither of two conditions
 

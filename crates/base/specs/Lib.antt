@@ -1,4 +1,5 @@
 pub mod Pick
 pub mod Run
+pub mod Below
 pub mod Bytes
 pub mod Calls

@@ -5,7 +5,7 @@ use rules::Pack;
 use rules::System;
 
 // AS is pack 3 in even sequences, 0 in odd.
-fn as_at(q: u32) -> u32
+pub fn as_at(q: u32) -> u32
     ensures { λ r. ⌜ r ≡ asAt q ⌝ }
 {
     if q % 2 == 0 { 3 } else { 0 }

@@ -5,6 +5,7 @@ mod time;
 mod vaux;
 
 pub use aaux::aaux_pack;
+pub use aaux::as_at;
 pub use aaux::as_ok;
 pub use aaux::count_in;
 pub use subcode::kind_of;
@@ -13,4 +14,5 @@ pub use time::group_ok;
 pub use time::time_ok;
 pub use time::time_taken;
 pub use vaux::vaux_pack;
+pub use vaux::vs_at;
 pub use vaux::vs_ok;

@@ -5,7 +5,7 @@ use rules::Pack;
 use rules::System;
 
 // VS is pack 39 in even sequences, 0 in odd.
-fn vs_at(q: u32) -> u32
+pub fn vs_at(q: u32) -> u32
     ensures { λ r. ⌜ r ≡ vsAt q ⌝ }
 {
     if q % 2 == 0 { 39 } else { 0 }

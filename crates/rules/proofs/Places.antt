@@ -8,9 +8,10 @@ use lib.ListN.{getD, List·getD-eq-default}
 use borrow.Author.Tests.{lt-ltb, le-ltb}
 use Rattle.base.specs.Pick.{pick}
 use Rattle.base.specs.Run.{run, tab}
+use Rattle.base.specs.Below.{below}
 use Rattle.base.proofs.Cases.{by-lt}
 use Rattle.base.proofs.Picks.{pick-true, pick-false}
-use Rattle.base.proofs.Below.{below, below-at, both-left, both-right}
+use Rattle.base.proofs.Below.{below-at, both-left, both-right}
 use Rattle.rules.specs.declared.Section.{Section}
 use Rattle.rules.specs.declared.Section.the-variants.{Header, Subcode, Vaux, Audio, Video}
 use Rattle.rules.specs.declared.Place.{Place}

@@ -7,7 +7,8 @@ use Prim.Native.Nat.{ℕ, _+_, _-_, _*_, _/_, _%_, _<_, _≤_}
 use native.Mathlib.Nat.{mul-add-mod-self-left, mul-add-div, mod-lt, mod-eq-of-lt, div-eq-of-lt, div-add-mod, div-lt-iff-lt-mul, mul-le-mul-right, mul-le-mul-left}
 use native.Mathlib.Omega.{arith}
 use lib.Dec.{T, eqb, ltb, eqb→eq, ltb→lt, lit<}
-use Rattle.base.proofs.Below.{below, below-at}
+use Rattle.base.specs.Below.{below}
+use Rattle.base.proofs.Below.{below-at}
 use Rattle.rules.specs.Sound.{difOf, halfAt, rowOf, audioOf, wordNumber, audioAt, rowAt, firstAt, sampleAt}
 
 -- ---- s

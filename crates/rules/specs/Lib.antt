@@ -20,6 +20,12 @@ pub mod Noting
 pub mod ReadId
 pub mod Survey
 pub mod View
+pub mod Check
+pub mod Reading
+pub mod Audio
+pub mod Macroblock
+pub mod Time
+pub mod Salvage
 pub mod Written
 pub mod Write
 pub mod Rows

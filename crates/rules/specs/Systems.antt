@@ -1,7 +1,9 @@
 -- The four systems (document 01, "The four systems").
 use mathlib.Core.Bool.{Bool, true, false, _||_}
+use mathlib.Core.List.{List, []}
 use Prim.Native.Nat.{ℕ, _*_, _/_}
 use lib.Dec.{eqb}
+use Rattle.base.specs.Calls.{Refusal}
 use Rattle.base.specs.Pick.{pick}
 use Rattle.rules.specs.declared.System.{System}
 use Rattle.rules.specs.declared.System.the-variants.{I60, I50, P60, P50}
@@ -82,10 +84,20 @@ abbrev pub sequencesIn : SystemNumber → ℕ
 sequencesIn (Known y) = sequencesOf y
 sequencesIn NoSystem = 0
 
+-- and no positions
+abbrev pub positionsIn : SystemNumber → ℕ
+positionsIn (Known y) = positionsOf y
+positionsIn NoSystem = 0
+
 -- what a known system passes; no system passes nothing
 abbrev pub passes : (System → Bool) → SystemNumber → Bool
 passes test (Known y) = test y
 passes test NoSystem = false
+
+-- the rows of a call's refusal table that want a known system
+abbrev pub rowsIn : SystemNumber → (System → List Refusal) → List Refusal
+rowsIn (Known y) rows = rows y
+rowsIn NoSystem rows = []
 
 -- frame length: 48,000·n
 abbrev pub frameBytes : SystemNumber → ℕ

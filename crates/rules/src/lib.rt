@@ -123,3 +123,16 @@ pub enum Carrier {
     In(Slot),
     NoSlot,
 }
+
+// What an audio read answers.
+pub struct AudioAnswer {
+    pub number: u32,
+    pub count: u32,
+}
+
+// What a time code read answers: four bytes of time code and four of binary group.
+pub struct TimeAnswer {
+    pub number: u32,
+    pub time: [u8; 4],
+    pub group: [u8; 4],
+}

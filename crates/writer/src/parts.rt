@@ -2,7 +2,7 @@
 ghost use mathlib.Core.Path.{_≡_};
 ghost use mathlib.Core.List.{[], _∷_};
 ghost use Prim.Native.Nat.{_<_};
-ghost use lib.ListN.{length, getD};
+ghost use lib.ListN.{length};
 ghost use Rattle.rules.specs.Ids.{idBytes};
 ghost use Rattle.rules.specs.Packs.{packBytes, packOf};
 ghost use Rattle.rules.specs.Samples.{bytesOf};
@@ -54,22 +54,15 @@ pub(crate) fn put_word(part: &mut [u8], word: u32)
     part[1] = (word % 256) as u8;
 }
 
-// A byte of a list, or 0 past its end.
-fn byte_at(bytes: &[u8], i: usize) -> u8
-    ensures { λ r. ⌜ r ≡ getD (now (bytes .entry)) i 0 ⌝ }
-{
-    if i < bytes.len() { bytes[i] } else { 0 }
-}
-
 // A pack of a header and four bytes.
 pub(crate) fn pack_of(header: u8, bytes: &[u8]) -> Pack
     ensures { λ r. ⌜ r ≡ packOf header (now (bytes .entry)) ⌝ }
 {
     Pack {
         pc0: header,
-        pc1: byte_at(bytes, 0),
-        pc2: byte_at(bytes, 1),
-        pc3: byte_at(bytes, 2),
-        pc4: byte_at(bytes, 3),
+        pc1: base::byte_at(bytes, 0),
+        pc2: base::byte_at(bytes, 1),
+        pc3: base::byte_at(bytes, 2),
+        pc4: base::byte_at(bytes, 3),
     }
 }

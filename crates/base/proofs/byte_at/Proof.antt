@@ -1,9 +1,9 @@
--- `writer::parts::byte_at` meets its contract: past the end there is no byte. Assumes nothing.
+-- `base::byte_at` meets its contract: past the end there is no byte. Assumes nothing.
 use mathlib.Core.Path.{sym}
 use lib.ListN.{List·getD-eq-default}
 use borrow.Author.Needs.{needs}
-use Rattle.writer.proofs.parts.byte_at.Statement.{statement}
-use Rattle.writer.proofs.parts.byte_at.Tie as tie
+use Rattle.base.proofs.byte_at.Statement.{statement}
+use Rattle.base.proofs.byte_at.Tie as tie
 
 shared-slice-read-result : tie.Need-shared-slice-read-result
 shared-slice-read-result c = search needs

@@ -1,0 +1,59 @@
+-- The calls `macroblock_number` and `macroblock`.
+use mathlib.Core.Path.{_≡_}
+use mathlib.Core.Bool.{not}
+use mathlib.Core.List.{List, [], _∷_, _++_}
+use Prim.Native.Nat.{ℕ}
+use lib.Dec.{eqb, ltb}
+use lib.ListN.{length, drop}
+use Rattle.base.specs.Calls.{Refusal, firstOf, _when_}
+use Rattle.base.specs.Pick.{pick}
+use Rattle.rules.specs.declared.System.{System}
+use Rattle.rules.specs.declared.SystemNumber.{SystemNumber}
+use Rattle.rules.specs.declared.SystemNumber.the-variants.{Known, NoSystem}
+use Rattle.rules.specs.declared.Section.the-variants.{Video}
+use Rattle.rules.specs.declared.Slot.{Slot}
+use Rattle.rules.specs.declared.Carrier.{Carrier}
+use Rattle.rules.specs.declared.Carrier.the-variants.{In, NoSlot}
+use Rattle.rules.specs.Systems.{macroblocksOf, systemOf, isNoSystem, passes, rowsIn, frameBytes}
+use Rattle.rules.specs.Places.{placeIn}
+use Rattle.rules.specs.Blocks.{blockAt}
+use Rattle.rules.specs.Picture.{carrierOf}
+use Rattle.rules.specs.Check.{everySequence, unflagged, checkRows}
+
+-- ---- the refusals in their order
+
+-- "macroblock read 23"
+unfoldable pub pictureRows : System → List ℕ → List Refusal
+pictureRows y frame = 23 when not (everySequence y frame (unflagged 2)) ∷ []
+
+-- system k, the frame, macroblock b
+unfoldable pub macroblockNumber : ℕ → List ℕ → ℕ → ℕ
+macroblockNumber k frame b = firstOf (
+    1 when isNoSystem (systemOf k)
+    ∷ 2 when not (eqb (length frame) (frameBytes (systemOf k)))
+    ∷ 3 when not (passes (λ (y : System). ltb b (macroblocksOf y)) (systemOf k))
+    ∷ rowsIn (systemOf k) (λ (y : System). checkRows y frame ++ pictureRows y frame))
+
+-- ---- the part: "A macroblock read answers its 77 bytes as a part of the frame"
+
+-- those behind the ID of the slot's block
+unfoldable pub slotBytes : System → List ℕ → Slot → List ℕ
+slotBytes y frame s = drop 3 (blockAt y frame (s .channel) (s .sequence) (placeIn Video (s .video .0)))
+
+unfoldable pub carrierBytes : System → List ℕ → Carrier → List ℕ
+carrierBytes y frame (In s) = slotBytes y frame s
+carrierBytes y frame NoSlot = []
+
+unfoldable pub macroblockBytes : SystemNumber → List ℕ → ℕ → List ℕ
+macroblockBytes (Known y) frame b = carrierBytes y frame (carrierOf y b)
+macroblockBytes NoSystem frame b = []
+
+-- "the part empty exactly when the number is a refusal"
+unfoldable pub macroblockPart : ℕ → List ℕ → ℕ → List ℕ
+macroblockPart k frame b = pick (eqb (macroblockNumber k frame b) 0) (macroblockBytes (systemOf k) frame b) []
+
+pub record MacroblockNumbered (k : ℕ) (frame : List ℕ) (b r : ℕ) : Type 0 where
+  pub answer : r ≡ macroblockNumber k frame b
+
+pub record MacroblockRead (k : ℕ) (frame : List ℕ) (b : ℕ) (part : List ℕ) : Type 0 where
+  pub answer : part ≡ macroblockPart k frame b
