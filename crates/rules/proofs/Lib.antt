@@ -12,7 +12,13 @@ pub mod Picture
 pub mod Faults
 pub mod Records
 pub mod Judging
+pub mod Check
+pub mod Reading
+pub mod Audio
+pub mod Macroblock
+pub mod Time
 pub mod Written
 pub mod Calls
+pub mod Salvage
 pub mod Write
 pub mod Known
