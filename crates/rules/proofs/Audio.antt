@@ -6,16 +6,16 @@ use mathlib.Core.List.{List, _++_}
 use Prim.Native.Nat.{ℕ, _+_, _*_, _<_}
 use native.Mathlib.Nat.{add-zero}
 use native.Mathlib.Omega.{arith}
-use lib.Dec.{eqb, ltb}
+use lib.Dec.{eqb}
 use lib.IntN.{ℤ, pos}
 use lib.ListN.{length, getD, drop, List·getD-append}
 use lib.Seq.{getD-append-add, getD-drop}
-use borrow.Author.Tests.{eq-eqb, ne-eqb, eqb-true, ltb-true, not-false}
+use borrow.Author.Tests.{eq-eqb, ne-eqb, eqb-true, not-false}
 use Rattle.base.specs.Calls.{firstOf, _when_, ExactlyOne}
 use Rattle.base.specs.Pick.{pick}
 use Rattle.base.specs.Run.{tab}
 use Rattle.base.proofs.Cases.{by-bool, by-eq}
-use Rattle.base.proofs.Picks.{pick-true, pick-false, first-zero, first-stops, both-held}
+use Rattle.base.proofs.Picks.{pick-true, pick-false, first-zero, first-stops}
 use Rattle.base.proofs.Runs.{length-tab, tab-at}
 use Rattle.rules.specs.declared.System.{System}
 use Rattle.rules.specs.declared.SystemNumber.the-variants.{Known, NoSystem}
@@ -24,13 +24,13 @@ use Rattle.rules.specs.Systems.{sequencesOf, positionsOf, isCount, syste
 use Rattle.rules.specs.Blocks.{sequenceAt}
 use Rattle.rules.specs.Samples.{numberOf}
 use Rattle.rules.specs.Sound.{difOf}
-use Rattle.rules.specs.Check.{everySequence, unflagged, faultIn, checkRows}
+use Rattle.rules.specs.Check.{everySequence, unflagged, checkRows}
 use Rattle.rules.specs.Reading.{readSample}
 use Rattle.rules.specs.Audio.{firstOfHalf, everyRow, asIn, asKeeps, countIs, countFor, isAudio, audioRows, audioNumber, countAnswered, audioAnswer, heard, audioLeft, AudioRead}
 use Rattle.rules.proofs.Systems.{half-cases, count-below}
 use Rattle.rules.proofs.Sound.{half-some}
 use Rattle.rules.proofs.Aaux.{as-means}
-use Rattle.rules.proofs.Check.{from-means, rows-mean, rows-on}
+use Rattle.rules.proofs.Check.{from-means, rows-on}
 
 -- ---- audioRows: each number exactly when its row is the first that holds
 

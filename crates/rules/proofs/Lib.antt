@@ -18,6 +18,7 @@ pub mod Audio
 pub mod Macroblock
 pub mod Time
 pub mod Written
+pub mod Back
 pub mod Calls
 pub mod Salvage
 pub mod Write

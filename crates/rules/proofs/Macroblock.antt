@@ -6,23 +6,27 @@ use mathlib.Core.List.{List, [], _++_}
 use Prim.Native.Nat.{ℕ, _+_, _*_, _<_}
 use native.Mathlib.Omega.{arith}
 use lib.Dec.{eqb, ltb}
-use lib.ListN.{length, drop, length-drop}
-use borrow.Author.Tests.{eq-eqb, ne-eqb, eqb-true, ltb-true, not-false}
+use lib.ListN.{length, length-drop}
+use borrow.Author.Tests.{eq-eqb, ne-eqb, eqb-true, ltb-true}
 use Rattle.base.specs.Calls.{firstOf, _when_, ExactlyOne}
 use Rattle.base.specs.Pick.{pick}
 use Rattle.base.proofs.Cases.{by-bool, by-eq}
-use Rattle.base.proofs.Picks.{pick-true, pick-false, first-zero, first-stops}
+use Rattle.base.proofs.Picks.{pick-true, pick-false, first-stops}
 use Rattle.rules.specs.declared.System.{System}
 use Rattle.rules.specs.declared.SystemNumber.the-variants.{Known, NoSystem}
 use Rattle.rules.specs.declared.Section.the-variants.{Video}
 use Rattle.rules.specs.declared.Slot.{Slot}
+use Rattle.rules.specs.declared.Carried.the-variants.{Macroblock}
 use Rattle.rules.specs.declared.Carrier.the-variants.{In}
 use Rattle.rules.specs.Systems.{sequencesOf, macroblocksOf, systemOf}
-use Rattle.rules.specs.Picture.{carrierOf}
+use Rattle.rules.specs.Places.{placeIn}
+use Rattle.rules.specs.Blocks.{blockAt}
+use Rattle.rules.specs.Picture.{carriedIn, carrierOf}
 use Rattle.rules.specs.Check.{everySequence, unflagged, checkRows}
 use Rattle.rules.specs.Macroblock.{pictureRows, macroblockNumber, slotBytes, carrierBytes, macroblockBytes, macroblockPart, MacroblockNumbered, MacroblockRead}
 use Rattle.rules.proofs.Places.{place-in-below}
 use Rattle.rules.proofs.Blocks.{block-length}
+use Rattle.rules.proofs.Picture.{carried-inside, carried-lies, carrier-one}
 use Rattle.rules.proofs.Check.{rows-on}
 
 -- ---- pictureRows
@@ -98,3 +102,18 @@ module _ (k : ℕ) (frame : List ℕ) (b : ℕ) where
     pub macroblock-taken : (s : Slot) → carrierOf y b ≡ In s → macroblockPart k frame b ≡ slotBytes y frame s
     unfolding macroblockPart macroblockBytes carrierBytes
     macroblock-taken s e = pick-true _ _ (eq-eqb _ 0 zero) ∙ rw (known, e) refl
+
+    -- which is the one slot that carries it
+    pub macroblock-carried : (s : Slot) → carriedIn y s ≡ Macroblock b → macroblockPart k frame b ≡ slotBytes y frame s
+    macroblock-carried s e = macroblock-taken s (carried-lies y s b e .1)
+
+    -- and those bytes are 77
+    pub macroblock-length : length (macroblockPart k frame b) ≡ 77
+    unfolding slotBytes
+    macroblock-length =
+        let z = macroblock-zero k frame b y known zero in
+        let one = carrier-one y b (z .1) in
+        let s = one .outcome in
+        let i = carried-inside y s b (one .meets) in
+        let wide = block-length y frame (s .channel) (s .sequence) (placeIn Video (s .video .0)) (z .0) (i .channel) (i .sequence) (place-in-below Video (s .video .0) (i .video)) in
+        ap length (macroblock-carried s (one .meets)) ∙ length-drop 3 (blockAt y frame (s .channel) (s .sequence) (placeIn Video (s .video .0))) ∙ omega (arith, wide)

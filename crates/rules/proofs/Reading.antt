@@ -4,7 +4,6 @@ use mathlib.Core.Bool.{true, false}
 use mathlib.Core.List.{List}
 use Prim.Native.Nat.{ℕ, _<_}
 use native.Mathlib.Omega.{arith}
-use Rattle.base.specs.Pick.{pick}
 use Rattle.base.proofs.Picks.{pick-true, pick-false}
 use Rattle.rules.specs.declared.System.{System}
 use Rattle.rules.specs.declared.Section.the-variants.{Audio}

@@ -11,7 +11,7 @@ use lib.ListN.{length, getD}
 use borrow.Author.Tests.{eq-eqb, ne-eqb, eqb-true}
 use Rattle.base.specs.Calls.{firstOf, _when_, ExactlyOne}
 use Rattle.base.specs.Pick.{pick}
-use Rattle.base.specs.Run.{run, tab, Wide}
+use Rattle.base.specs.Run.{Wide}
 use Rattle.base.proofs.Cases.{by-bool}
 use Rattle.base.proofs.Picks.{pick-true, pick-false}
 use Rattle.base.proofs.Runs.{length-run, length-tab, tab-at, run-element}
@@ -21,10 +21,10 @@ use Rattle.rules.specs.declared.Survey.{Survey}
 use Rattle.rules.specs.Systems.{sequencesOf, positionsOf, systemOf}
 use Rattle.rules.specs.Samples.{lost, numberOf}
 use Rattle.rules.specs.Faults.{faultsIn}
-use Rattle.rules.specs.Survey.{surveyNumber, refusal, surveyAnswer, surveyLeft, Surveyed, FrameSurveyed}
+use Rattle.rules.specs.Survey.{surveyNumber, refusal, surveyAnswer, surveyLeft, FrameSurveyed}
 use Rattle.rules.specs.Reading.{soundNamed, readSample, salvagedSample}
 use Rattle.rules.specs.Salvage.{salvagedChannel, salvaged, salvageNumber, salvagedFor, salvageLeft, Salvaged}
-use Rattle.rules.proofs.Calls.{survey-refused, survey-taken, survey-0}
+use Rattle.rules.proofs.Calls.{survey-refused, survey-0}
 use Rattle.rules.proofs.Reading.{salvaged-named, salvaged-lost}
 
 -- ---- salvaged: position t of audio channel c

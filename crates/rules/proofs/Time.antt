@@ -1,21 +1,21 @@
 -- The call `read_time`: one answer for every input, each refusal exactly when its row says; bit 6 of PC1 at 50 Hz. Assumes nothing.
 use mathlib.Core.Path.{_≡_, refl, sym, _∙_}
-use mathlib.Core.Bool.{Bool, true, false, _&&_}
+use mathlib.Core.Bool.{true, false, _&&_}
 use mathlib.Core.List.{List, _++_}
 use Prim.Native.Nat.{ℕ, _*_, _/_, _%_, _<_}
 use native.Mathlib.Omega.{arith}
 use lib.Dec.{eqb}
 use lib.ListN.{length}
-use borrow.Author.Tests.{eq-eqb, ne-eqb, eqb-true, not-false}
+use borrow.Author.Tests.{eq-eqb, ne-eqb, eqb-true}
 use Rattle.base.specs.Calls.{firstOf, _when_, ExactlyOne}
 use Rattle.base.specs.Pick.{pick}
-use Rattle.base.proofs.Below.{below-means, below-when, below-fails}
+use Rattle.base.proofs.Below.{below-means, below-when}
 use Rattle.base.proofs.Cases.{by-bool, by-eq}
-use Rattle.base.proofs.Picks.{pick-true, pick-false, first-zero, first-stops, both-held, both-hold}
+use Rattle.base.proofs.Picks.{pick-true, pick-false, first-stops, both-held}
 use Rattle.rules.specs.declared.System.{System}
 use Rattle.rules.specs.declared.SystemNumber.the-variants.{Known, NoSystem}
 use Rattle.rules.specs.declared.Pack.{Pack}
-use Rattle.rules.specs.declared.SubcodePack.the-variants.{TimeCode, BinaryGroup, NoPack}
+use Rattle.rules.specs.declared.SubcodePack.the-variants.{TimeCode, BinaryGroup}
 use Rattle.rules.specs.declared.TimeAnswer.{TimeAnswer}
 use Rattle.rules.specs.Systems.{sequencesOf, rateOf, systemOf}
 use Rattle.rules.specs.TimeCode.{timeOk, groupOk}
