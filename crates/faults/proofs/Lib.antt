@@ -1,3 +1,4 @@
 pub mod Naming
 pub mod Noting
+pub mod Clear
 pub mod Ways

@@ -1,14 +1,22 @@
 -- What the private functions ask and say.
 use mathlib.Core.Path.{_≡_}
-use mathlib.Core.List.{List}
-use Prim.Native.Nat.{ℕ, _+_, _*_, _/_, _≤_, _<_, min}
-use lib.ListN.{length, getD}
+use mathlib.Core.Bool.{Bool, true, not, _&&_}
+use mathlib.Core.List.{List, []}
+use Prim.Native.Nat.{ℕ, _+_, _*_, _/_, _%_, _≤_, _<_, min}
+use lib.Dec.{eqb, ltb}
+use lib.ListN.{length, take, drop, getD}
+use Rattle.base.specs.Pick.{pick}
 use Rattle.rules.specs.declared.System.{System}
+use Rattle.rules.specs.declared.SystemNumber.the-variants.{Known}
+use Rattle.rules.specs.declared.Fault.{Fault}
 use Rattle.rules.specs.declared.Survey.{Survey}
 use Rattle.rules.specs.Systems.{sequencesOf}
 use Rattle.rules.specs.Places.{place, entryAt}
 use Rattle.rules.specs.Blocks.{startOf}
+use Rattle.rules.specs.Faults.{sequenceFaults}
 use Rattle.rules.specs.Judging.{judgedBits, printed, keyOf}
+use Rattle.rules.specs.Survey.{outsideSequences}
+use Rattle.rules.specs.Check.{faultIn}
 
 -- the first three bytes of a block are bytes
 pub record IdBytes (block : List ℕ) : Type 0 where
@@ -67,3 +75,22 @@ pub record StartIs (y : System) (h q p r : ℕ) : Type 0 where
 -- what a survey that went through answers: its total t, of a list of so many numbers
 abbrev pub tallied : ℕ → ℕ → Survey
 tallied t size = record { number = 0; total = t; kept = min (size / 4) t }
+
+-- ---- a survey that goes on, and the first fault
+
+-- the faults of sequence q of DIF channel h, where t came before; none where it is none of the system's, or t are too many
+unfoldable pub nextFaults : System → ℕ → ℕ → List ℕ → ℕ → List Fault
+nextFaults y h q part t =
+    pick (not (outsideSequences (Known y) h q) && (eqb (length part) 12000 && ltb t 8000)) (sequenceFaults part h q) []
+
+-- those of sequence j of the stream, of n a DIF channel
+unfoldable pub streamFaults : List ℕ → ℕ → ℕ → List Fault
+streamFaults frame n j = sequenceFaults (take 12000 (drop (j * 12000) frame)) (j / n) (j % n)
+
+-- where r says so there is no fault
+pub record Clean (r : Bool) (fs : List Fault) : Type 0 where
+  pub none : r ≡ true → fs ≡ []
+
+-- the first fault in stream order, or 0; 2 where the frame has not its length
+unfoldable pub firstOrLength : System → List ℕ → ℕ
+firstOrLength y frame = pick (eqb (length frame) (48000 * sequencesOf y)) (faultIn y frame) 2

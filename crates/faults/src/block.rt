@@ -1,7 +1,9 @@
 // The fault of a block where it stands, and the judged bits of its ID as one number.
 ghost use mathlib.Core.Path.{_≡_};
 ghost use Prim.Native.Nat.{_≤_};
+ghost use lib.Dec.{eqb};
 ghost use lib.ListN.{length};
+ghost use Rattle.rules.specs.Ids.{blockAnswer};
 ghost use Rattle.rules.specs.Faults.{misnamed, faultOf, faultAt};
 ghost use Rattle.rules.specs.Judging.{keyOf};
 ghost use Rattle.faults.specs.Asked.{Word, Judged, InSequence};
@@ -47,6 +49,13 @@ pub(crate) fn fault_at(block: &[u8], h: u32, q: u32, p: Place) -> u32
     ensures { λ r. ⌜ r ≡ faultAt (now (block .entry)) h q (p .0) ⌝ }
 {
     fault_of(layout::read_block(block), h, q, layout::entry_at(p))
+}
+
+// Whether a block names the place of an entry.
+pub fn names_entry(block: &[u8], h: u32, q: u32, e: Entry) -> bool
+    ensures { λ r. ⌜ r ≡ eqb (faultOf (blockAnswer (now (block .entry))) h q e) 0 ⌝ }
+{
+    fault_of(layout::read_block(block), h, q, e) == 0
 }
 
 // The first four bytes of a block as one number, the first lowest.

@@ -32,7 +32,7 @@ fn survey_channel(frame: &[u8], y: System, h: u32, from: usize, list: &mut [u32]
 }
 
 // The survey of a frame.
-fn survey_all(frame: &[u8], y: System, list: &mut [u32]) -> u32
+pub(crate) fn survey_all(frame: &[u8], y: System, list: &mut [u32]) -> u32
     requires { ⌜ length (now frame) ≡ 48000 * sequencesOf y ⌝ }
     ensures { λ r. ⌜ Noted (now (list .entry)) 0 (frameFaults y (now (frame .entry))) (now (list .exit)) r ⌝ }
 {

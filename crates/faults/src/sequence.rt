@@ -3,7 +3,7 @@ ghost use mathlib.Core.Path.{_≡_};
 ghost use Rattle.rules.specs.Faults.{blockFaults, sequenceFaults};
 ghost use Rattle.rules.specs.Noting.{Noted};
 ghost use Rattle.rules.specs.Survey.{outsideSequences, SequenceSurveyed};
-ghost use Rattle.faults.specs.Asked.{BlockAsked, PartAsked};
+ghost use Rattle.faults.specs.Asked.{BlockAsked, PartAsked, nextFaults};
 use crate::block;
 use crate::list;
 use layout::BLOCK;
@@ -82,6 +82,23 @@ pub(crate) fn outside(y: System, h: u32, q: u32) -> bool
     ensures { λ r. ⌜ r ≡ outsideSequences (SystemNumber.Known y) h q ⌝ }
 {
     (CHANNELS <= h) | (layout::sequences(y) <= q)
+}
+
+// The survey of one sequence where t faults came before. Nothing is surveyed where the sequence is none of the system's, or
+// after 8,000 faults.
+pub fn survey_next(y: System, h: u32, q: u32, part: &[u8], list: &mut [u32], t: u32) -> u32
+    ensures { λ r. ⌜ Noted (now (list .entry)) t (nextFaults y h q (now (part .entry)) t) (now (list .exit)) r ⌝ }
+{
+    if outside(y, h, q) {
+        return t;
+    }
+    if part.len() != SEQUENCE {
+        return t;
+    }
+    if 8000 <= t {
+        return t;
+    }
+    survey_part(part, h, q, list, t)
 }
 
 // The survey of one sequence. Refusals: 1, 3, 4.
