@@ -1,0 +1,18 @@
+-- What a test asks of sequence q and its 12,000 bytes.
+use mathlib.Core.Bool.{Bool}
+use mathlib.Core.List.{List}
+use Prim.Native.Nat.{ℕ}
+use Rattle.rules.specs.declared.System.{System}
+use Rattle.rules.specs.Check.{dsfAgrees, vsAgrees, unflagged}
+use Rattle.rules.specs.Audio.{asKeeps, countIs}
+use Rattle.rules.specs.Time.{subcodeAgrees}
+use Rattle.judges.specs.declared.Test.{Test}
+use Rattle.judges.specs.declared.Test.the-variants.{Dsf, Vs, Unflagged, AsKeeps, CountIs, Subcode}
+
+abbrev pub testOf : System → Test → ℕ → List ℕ → Bool
+testOf y Dsf = dsfAgrees y
+testOf y Vs = vsAgrees y
+testOf y (Unflagged k) = unflagged k
+testOf y (AsKeeps c) = asKeeps y c
+testOf y (CountIs count) = countIs count
+testOf y (Subcode time group) = subcodeAgrees y time group

@@ -1,0 +1,74 @@
+// What a sequence says that starts at byte `at` of the frame.
+ghost use mathlib.Core.Path.{_≡_};
+ghost use Prim.Native.Nat.{_<_};
+ghost use lib.ListN.{getD};
+ghost use Rattle.rules.specs.Packs.{packIn};
+ghost use Rattle.rules.specs.Blocks.{blockIn};
+ghost use Rattle.rules.specs.Check.{headerIn, vsIn};
+ghost use Rattle.rules.specs.Audio.{asIn};
+ghost use Rattle.rules.specs.Time.{ssybIn};
+ghost use Rattle.judges.specs.Asked.{partAt, Start, Low, PackAsked, SsybAsked};
+use layout::BLOCK;
+use layout::SEQUENCE;
+use rules::Pack;
+use rules::System;
+
+// Where sequence q of DIF channel h starts.
+pub(crate) fn start(y: System, h: u32, q: u32) -> usize
+    ensures { λ r. ⌜ Start y h q r ⌝ }
+{
+    let n = layout::sequences(y) as usize;
+    (n * h as usize + q as usize) * SEQUENCE
+}
+
+// Byte i of the header; a block has no byte past its 80.
+pub(crate) fn header_byte(frame: &[u8], at: usize, i: usize) -> u8
+    requires { ⌜ Low at ⌝ }
+    ensures { λ r. ⌜ r ≡ getD (headerIn (partAt (now (frame .entry)) at)) i 0 ⌝ }
+{
+    if i < BLOCK {
+        return base::byte_at(frame, at + i);
+    }
+    0
+}
+
+// The pack from byte i on of the block at place p.
+fn pack_in(frame: &[u8], at: usize, p: u32, i: u32) -> Pack
+    requires { ⌜ PackAsked at p i ⌝ }
+    ensures { λ r. ⌜ r ≡ packIn (blockIn (partAt (now (frame .entry)) at) p) i ⌝ }
+{
+    let from = at + p as usize * BLOCK + i as usize;
+    Pack {
+        pc0: base::byte_at(frame, from),
+        pc1: base::byte_at(frame, from + 1),
+        pc2: base::byte_at(frame, from + 2),
+        pc3: base::byte_at(frame, from + 3),
+        pc4: base::byte_at(frame, from + 4),
+    }
+}
+
+// The VS of sequence q.
+pub(crate) fn vs_in(frame: &[u8], at: usize, q: u32) -> Pack
+    requires { ⌜ Low at ⌝ }
+    ensures { λ r. ⌜ r ≡ vsIn q (partAt (now (frame .entry)) at) ⌝ }
+{
+    let k = packs::vs_at(q);
+    pack_in(frame, at, 3 + k / 15, 3 + 5 * (k % 15))
+}
+
+// The AS of sequence q.
+pub(crate) fn as_in(frame: &[u8], at: usize, q: u32) -> Pack
+    requires { ⌜ Low at ⌝ }
+    ensures { λ r. ⌜ r ≡ asIn q (partAt (now (frame .entry)) at) ⌝ }
+{
+    let a = packs::as_at(q);
+    pack_in(frame, at, 6 + 16 * a, 3)
+}
+
+// The pack of SSYB k of the twelve.
+pub(crate) fn ssyb_in(frame: &[u8], at: usize, k: u32) -> Pack
+    requires { ⌜ SsybAsked at k ⌝ }
+    ensures { λ r. ⌜ r ≡ ssybIn k (partAt (now (frame .entry)) at) ⌝ }
+{
+    pack_in(frame, at, 1 + k / 6, 6 + 8 * (k % 6))
+}
