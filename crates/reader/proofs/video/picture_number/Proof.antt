@@ -1,0 +1,17 @@
+-- `reader::video::picture_number` meets its contract: by its one row. Assumes nothing.
+use borrow.Author.Needs.{needs}
+use Rattle.reader.proofs.Ways.{picture-passes, picture-marked}
+use Rattle.reader.proofs.video.picture_number.Statement.{statement}
+use Rattle.reader.proofs.video.picture_number.Tie as tie
+
+every-sequence-requires : tie.Need-every-sequence-requires
+every-sequence-requires c κs = search needs
+
+returns : tie.Need-returns
+returns c = search (picture-passes, needs)
+
+returns-2 : tie.Need-returns-2
+returns-2 c = search (picture-marked, needs)
+
+pub picture-number-spec : {M : Type 1} → statement M
+picture-number-spec = tie.close (tie.spec every-sequence-requires returns returns-2)
