@@ -65,7 +65,7 @@ pub fn every_row(y: System, frame: &[u8], audio: u32, test: Test) -> bool
 pub fn count_for(y: System, frame: &[u8], audio: u32) -> u32
     ensures { λ r. ⌜ r ≡ countFor y (now (frame .entry)) audio ⌝ }
 {
-    let q = first_row(y, audio);
-    let at = read::start(y, dif(audio), q);
-    packs::count_in(read::as_in(frame, at, q))
+    let first = first_row(y, audio);
+    let at = read::start(y, dif(audio), first);
+    packs::count_in(read::as_in(frame, at, first))
 }
