@@ -1,58 +1,8 @@
 // The audio read.
 ghost use mathlib.Core.Path.{_≡_};
-ghost use Rattle.base.specs.Calls.{firstOf};
-ghost use Rattle.rules.specs.Audio.{audioRows, audioNumber, AudioRead};
-use crate::check;
-use judges::Test;
+ghost use Rattle.rules.specs.Audio.{AudioRead};
 use rules::AudioAnswer;
-use rules::System;
 use rules::SystemNumber;
-
-// What a frame is refused for beyond the frame check: 23, 24, 25.
-fn sound_number(y: System, frame: &[u8], audio: u32) -> u32
-    ensures { λ r. ⌜ r ≡ firstOf (audioRows y (now (frame .entry)) audio) ⌝ }
-{
-    let unmarked = judges::every_sequence(y, frame, Test::Unflagged(1));
-    let kept = judges::every_row(y, frame, audio, Test::AsKeeps(audio));
-    let count = judges::count_for(y, frame, audio);
-    let same = judges::every_row(y, frame, audio, Test::CountIs(count));
-    if !unmarked {
-        return 23;
-    }
-    if !kept {
-        return 24;
-    }
-    if !same {
-        return 25;
-    }
-    0
-}
-
-// The number of an audio read into a list of so many entries.
-fn audio_number(system: u32, frame: &[u8], audio: u32, size: usize) -> u32
-    ensures { λ r. ⌜ r ≡ audioNumber system (now (frame .entry)) audio size ⌝ }
-{
-    let SystemNumber::Known(y) = layout::system_of(system) else {
-        return 1;
-    };
-    let whole = frame.len() == layout::frame_bytes(y);
-    let channel = (0 < audio) & (audio < 9);
-    let room = size == (layout::positions(y) as usize);
-    if !whole {
-        return 2;
-    }
-    if !channel {
-        return 3;
-    }
-    if !room {
-        return 4;
-    }
-    let number = check::checked(y, frame);
-    if number != 0 {
-        return number;
-    }
-    sound_number(y, frame, audio)
-}
 
 // A refusal: its number, and no count.
 fn refused(number: u32) -> AudioAnswer
@@ -61,5 +11,25 @@ fn refused(number: u32) -> AudioAnswer
     AudioAnswer {
         number: number,
         count: 0,
+    }
+}
+
+// The samples of an audio channel, and their count. Refusals: 1, 2, 3, 4, the frame check's, 23, 24, 25.
+pub fn read_audio(system: u32, frame: &[u8], audio: u32, samples: &mut [i32]) -> AudioAnswer
+    ensures { λ r. ⌜ AudioRead system (now (frame .entry)) audio (now (samples .entry)) r (now (samples .exit)) ⌝ }
+{
+    let SystemNumber::Known(y) = layout::system_of(system) else {
+        return refused(1);
+    };
+    let number = asks::audio_number(system, frame, audio, samples.len());
+    if number != 0 {
+        return refused(number);
+    }
+    let count = judges::count_for(y, frame, audio);
+    let end = count as usize;
+    rescue::samples_of(y, frame, audio, &mut samples[..end]);
+    AudioAnswer {
+        number: 0,
+        count: count,
     }
 }

@@ -4,6 +4,7 @@ mod check;
 mod time;
 mod video;
 
+pub use audio::read_audio;
 pub use check::check_frame;
 pub use time::read_time;
 pub use video::macroblock;

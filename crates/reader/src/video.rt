@@ -1,25 +1,11 @@
 // The macroblock read: its number by one call, its bytes as a part of the frame by another.
-ghost use mathlib.Core.Path.{_≡_};
-ghost use Rattle.base.specs.Calls.{firstOf};
-ghost use Rattle.rules.specs.Macroblock.{pictureRows, MacroblockNumbered, MacroblockRead};
+ghost use Rattle.rules.specs.Macroblock.{MacroblockNumbered, MacroblockRead};
 ghost use Rattle.reader.specs.Asked.{SlotAsked, SlotStart};
-use crate::check;
-use judges::Test;
 use layout::BLOCK;
 use layout::PLACES;
 use rules::Carrier;
 use rules::System;
 use rules::SystemNumber;
-
-// What a frame is refused for beyond the frame check: 23.
-fn picture_number(y: System, frame: &[u8]) -> u32
-    ensures { λ r. ⌜ r ≡ firstOf (pictureRows y (now (frame .entry))) ⌝ }
-{
-    if judges::every_sequence(y, frame, Test::Unflagged(2)) {
-        return 0;
-    }
-    23
-}
 
 // Where the 77 bytes of slot V(v) start, behind the ID of its block.
 fn slot_start(y: System, h: u32, q: u32, v: u32) -> usize
@@ -35,22 +21,7 @@ fn slot_start(y: System, h: u32, q: u32, v: u32) -> usize
 pub fn macroblock_number(system: u32, frame: &[u8], number: u32) -> u32
     ensures { λ r. ⌜ MacroblockNumbered system (now (frame .entry)) number r ⌝ }
 {
-    let SystemNumber::Known(y) = layout::system_of(system) else {
-        return 1;
-    };
-    let whole = frame.len() == layout::frame_bytes(y);
-    let within = number < layout::macroblocks(y);
-    if !whole {
-        return 2;
-    }
-    if !within {
-        return 3;
-    }
-    let refusal = check::checked(y, frame);
-    if refusal != 0 {
-        return refusal;
-    }
-    picture_number(y, frame)
+    asks::macroblock_number(system, frame, number)
 }
 
 // The 77 bytes of a macroblock, a part of the frame; none where its number is a refusal.

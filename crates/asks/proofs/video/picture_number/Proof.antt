@@ -1,8 +1,8 @@
--- `reader::video::picture_number` meets its contract: by its one row. Assumes nothing.
+-- `asks::video::picture_number` meets its contract: by its one row. Assumes nothing.
 use borrow.Author.Needs.{needs}
-use Rattle.reader.proofs.Ways.{picture-passes, picture-marked}
-use Rattle.reader.proofs.video.picture_number.Statement.{statement}
-use Rattle.reader.proofs.video.picture_number.Tie as tie
+use Rattle.asks.proofs.Ways.{picture-passes, picture-marked}
+use Rattle.asks.proofs.video.picture_number.Statement.{statement}
+use Rattle.asks.proofs.video.picture_number.Tie as tie
 
 every-sequence-requires : tie.Need-every-sequence-requires
 every-sequence-requires c κs = search needs

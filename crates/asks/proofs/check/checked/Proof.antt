@@ -1,8 +1,8 @@
--- `reader::check::checked` meets its contract: one lemma for each row. Assumes nothing.
+-- `asks::check::checked` meets its contract: one lemma for each row. Assumes nothing.
 use borrow.Author.Needs.{needs}
-use Rattle.reader.proofs.Ways.{checked-fault, checked-21, checked-22, checked-0}
-use Rattle.reader.proofs.check.checked.Statement.{statement}
-use Rattle.reader.proofs.check.checked.Tie as tie
+use Rattle.asks.proofs.Ways.{checked-fault, checked-21, checked-22, checked-0}
+use Rattle.asks.proofs.check.checked.Statement.{statement}
+use Rattle.asks.proofs.check.checked.Tie as tie
 
 first-fault-requires : tie.Need-first-fault-requires
 first-fault-requires c κs = search needs

@@ -1,8 +1,8 @@
--- `reader::time::time_number` meets its contract: one lemma for each row. Assumes nothing.
+-- `asks::time::time_number` meets its contract: one lemma for each row. Assumes nothing.
 use borrow.Author.Needs.{needs}
-use Rattle.reader.proofs.Ways.{time-no-system, time-wrong-length, time-check-stops, time-through}
-use Rattle.reader.proofs.time.time_number.Statement.{statement}
-use Rattle.reader.proofs.time.time_number.Tie as tie
+use Rattle.asks.proofs.Ways.{time-no-system, time-wrong-length, time-check-stops, time-through}
+use Rattle.asks.proofs.time.time_number.Statement.{statement}
+use Rattle.asks.proofs.time.time_number.Tie as tie
 
 system-of-requires : tie.Need-system-of-requires
 system-of-requires c κs = search needs

@@ -1,8 +1,8 @@
--- `reader::audio::sound_number` meets its contract: one lemma for each row. Assumes nothing.
+-- `asks::audio::sound_number` meets its contract: one lemma for each row. Assumes nothing.
 use borrow.Author.Needs.{needs}
-use Rattle.reader.proofs.Ways.{sound-23, sound-24, sound-25, sound-0}
-use Rattle.reader.proofs.audio.sound_number.Statement.{statement}
-use Rattle.reader.proofs.audio.sound_number.Tie as tie
+use Rattle.asks.proofs.Ways.{sound-23, sound-24, sound-25, sound-0}
+use Rattle.asks.proofs.audio.sound_number.Statement.{statement}
+use Rattle.asks.proofs.audio.sound_number.Tie as tie
 
 every-sequence-requires : tie.Need-every-sequence-requires
 every-sequence-requires c κs = search needs

@@ -1,8 +1,8 @@
--- `reader::audio::audio_number` meets its contract: one lemma for each row. Assumes nothing.
+-- `asks::audio::audio_number` meets its contract: one lemma for each row. Assumes nothing.
 use borrow.Author.Needs.{needs}
-use Rattle.reader.proofs.Ways.{audio-no-system, audio-wrong-length, audio-no-channel, audio-no-room, audio-check-stops, audio-through, whole-asked}
-use Rattle.reader.proofs.audio.audio_number.Statement.{statement}
-use Rattle.reader.proofs.audio.audio_number.Tie as tie
+use Rattle.asks.proofs.Ways.{audio-no-system, audio-wrong-length, audio-no-channel, audio-no-room, audio-check-stops, audio-through, whole-asked}
+use Rattle.asks.proofs.audio.audio_number.Statement.{statement}
+use Rattle.asks.proofs.audio.audio_number.Tie as tie
 
 system-of-requires : tie.Need-system-of-requires
 system-of-requires c κs = search needs

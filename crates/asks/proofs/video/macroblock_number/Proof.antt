@@ -1,8 +1,8 @@
--- `reader::video::macroblock_number` meets its contract: one lemma for each row. Assumes nothing.
+-- `asks::video::macroblock_number` meets its contract: one lemma for each row. Assumes nothing.
 use borrow.Author.Needs.{needs}
-use Rattle.reader.proofs.Ways.{macroblock-no-system, macroblock-wrong-length, macroblock-none, macroblock-check-stops, macroblock-through, whole-asked}
-use Rattle.reader.proofs.video.macroblock_number.Statement.{statement}
-use Rattle.reader.proofs.video.macroblock_number.Tie as tie
+use Rattle.asks.proofs.Ways.{macroblock-no-system, macroblock-wrong-length, macroblock-none, macroblock-check-stops, macroblock-through, whole-asked}
+use Rattle.asks.proofs.video.macroblock_number.Statement.{statement}
+use Rattle.asks.proofs.video.macroblock_number.Tie as tie
 
 system-of-requires : tie.Need-system-of-requires
 system-of-requires c κs = search needs

@@ -1,8 +1,8 @@
--- `reader::time::clock_number` meets its contract: one lemma for each row. Assumes nothing.
+-- `asks::time::clock_number` meets its contract: one lemma for each row. Assumes nothing.
 use borrow.Author.Needs.{needs}
-use Rattle.reader.proofs.Ways.{clock-23, clock-26, clock-27, clock-0}
-use Rattle.reader.proofs.time.clock_number.Statement.{statement}
-use Rattle.reader.proofs.time.clock_number.Tie as tie
+use Rattle.asks.proofs.Ways.{clock-23, clock-26, clock-27, clock-0}
+use Rattle.asks.proofs.time.clock_number.Statement.{statement}
+use Rattle.asks.proofs.time.clock_number.Tie as tie
 
 time-first-requires : tie.Need-time-first-requires
 time-first-requires c κs = search needs

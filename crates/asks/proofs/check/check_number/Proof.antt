@@ -1,8 +1,8 @@
--- `reader::check::check_frame` meets its contract: one lemma for each way out. Assumes nothing.
+-- `asks::check::check_number` meets its contract: one lemma for each way out. Assumes nothing.
 use borrow.Author.Needs.{needs}
-use Rattle.reader.proofs.Ways.{check-no-system, check-wrong-length, check-through}
-use Rattle.reader.proofs.check.check_frame.Statement.{statement}
-use Rattle.reader.proofs.check.check_frame.Tie as tie
+use Rattle.asks.proofs.Ways.{check-no-system, check-wrong-length, check-through}
+use Rattle.asks.proofs.check.check_number.Statement.{statement}
+use Rattle.asks.proofs.check.check_number.Tie as tie
 
 system-of-requires : tie.Need-system-of-requires
 system-of-requires c κs = search needs
@@ -28,8 +28,8 @@ checked-requires c κs = search needs
 returns-3 : tie.Need-returns-3
 returns-3 c = search (check-through, needs)
 
-pub check-frame-spec : {M : Type 1} → statement M
-check-frame-spec =
+pub check-number-spec : {M : Type 1} → statement M
+check-number-spec =
     tie.close
     (tie.spec
     system-of-requires

@@ -1,0 +1,43 @@
+// The frame check, which every strict read asks for itself.
+ghost use mathlib.Core.Path.{_≡_};
+ghost use Prim.Native.Nat.{_*_};
+ghost use lib.ListN.{length};
+ghost use Rattle.base.specs.Calls.{firstOf};
+ghost use Rattle.rules.specs.Systems.{sequencesOf};
+ghost use Rattle.rules.specs.Check.{checkRows, Checked};
+use judges::Test;
+use rules::System;
+use rules::SystemNumber;
+
+// What a frame of the right length is refused for: 11 to 15 of its first faulty block, 21, 22.
+pub(crate) fn checked(y: System, frame: &[u8]) -> u32
+    requires { ⌜ length (now frame) ≡ 48000 * sequencesOf y ⌝ }
+    ensures { λ r. ⌜ r ≡ firstOf (checkRows y (now (frame .entry))) ⌝ }
+{
+    let fault = faults::first_fault(y, frame);
+    let dsf = judges::every_sequence(y, frame, Test::Dsf);
+    let vs = judges::every_sequence(y, frame, Test::Vs);
+    if fault != 0 {
+        return fault;
+    }
+    if !dsf {
+        return 21;
+    }
+    if !vs {
+        return 22;
+    }
+    0
+}
+
+// The number of a frame check: 1, 2, 11 to 15, 21, 22.
+pub fn check_number(system: u32, frame: &[u8]) -> u32
+    ensures { λ r. ⌜ Checked system (now (frame .entry)) r ⌝ }
+{
+    let SystemNumber::Known(y) = layout::system_of(system) else {
+        return 1;
+    };
+    if frame.len() != layout::frame_bytes(y) {
+        return 2;
+    }
+    checked(y, frame)
+}
