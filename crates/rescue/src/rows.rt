@@ -1,0 +1,100 @@
+// The samples of an audio channel, sequence by sequence. Its sequences are its rows, and audio channels count from 0 here.
+ghost use mathlib.Core.Path.{_≡_};
+ghost use Prim.Native.Nat.{_+_, _*_, _≤_};
+ghost use lib.ListN.{length};
+ghost use Rattle.rules.specs.Systems.{halfOf, positionsOf};
+ghost use Rattle.rules.specs.Noting.{Noted};
+ghost use Rattle.rescue.specs.Taken.{heldSample, Between, samplesFit, samplesLeft, rowFaults};
+ghost use Rattle.rescue.specs.Asked.{RowAsked, HalfAsked, HalfSalvaged};
+use crate::words;
+use layout::SEQUENCE;
+use rules::System;
+
+// The samples of row r.
+fn take_row(frame: &[u8], y: System, i: u32, r: u32, samples: &mut [i32])
+    requires { ⌜ RowAsked (now frame) y i r ⌝ }
+    requires { ⌜ length (now samples) ≤ positionsOf y ⌝ }
+    ensures { λ _. ⌜ Between (halfOf y) (9 * r) (9 * r + 9) (heldSample y (now (frame .entry)) (i + 1)) (now (samples .entry)) (now (samples .exit)) ⌝ }
+{
+    let s = layout::half(y);
+    let at = ((s * i + r) as usize) * SEQUENCE;
+    words::take_part(
+        &frame[at..at + SEQUENCE],
+        y,
+        i / 2,
+        s * (i % 2) + r,
+        samples,
+    );
+}
+
+// The faults of row r, where t came before.
+fn survey_row(frame: &[u8], y: System, i: u32, r: u32, list: &mut [u32], t: u32) -> u32
+    requires { ⌜ RowAsked (now frame) y i r ⌝ }
+    requires { ⌜ t ≤ 7200 ⌝ }
+    ensures { λ total. ⌜ Noted (now (list .entry)) t (rowFaults y (now (frame .entry)) i r) (now (list .exit)) total ⌝ }
+{
+    let s = layout::half(y);
+    let at = ((s * i + r) as usize) * SEQUENCE;
+    faults::survey_next(
+        y,
+        i / 2,
+        s * (i % 2) + r,
+        &frame[at..at + SEQUENCE],
+        list,
+        t,
+    )
+}
+
+// The samples of an audio channel.
+fn take_half(frame: &[u8], y: System, i: u32, samples: &mut [i32])
+    requires { ⌜ HalfAsked (now frame) y i 0 ⌝ }
+    requires { ⌜ length (now samples) ≤ positionsOf y ⌝ }
+    ensures { λ _. ⌜ Between (halfOf y) 0 (9 * halfOf y) (heldSample y (now (frame .entry)) (i + 1)) (now (samples .entry)) (now (samples .exit)) ⌝ }
+{
+    let mut r: u32 = 0;
+    while r < layout::half(y) {
+        take_row(frame, y, i, r, samples);
+        r += 1;
+    }
+}
+
+// The samples and the faults of an audio channel, in one pass.
+pub(crate) fn salvage_half(
+    frame: &[u8],
+    y: System,
+    i: u32,
+    samples: &mut [i32],
+    list: &mut [u32],
+    t: u32,
+) -> u32
+    requires { ⌜ HalfAsked (now frame) y i t ⌝ }
+    requires { ⌜ length (now samples) ≤ positionsOf y ⌝ }
+    ensures { λ r. ⌜ HalfSalvaged y (now (frame .entry)) i t (now (samples .entry)) (now (samples .exit)) (now (list .entry)) (now (list .exit)) r ⌝ }
+{
+    let mut total = t;
+    let mut r: u32 = 0;
+    while r < layout::half(y) {
+        total = survey_row(frame, y, i, r, list, total);
+        take_row(frame, y, i, r, samples);
+        r += 1;
+    }
+    total
+}
+
+// What is lent fits the system.
+fn samples_fit(y: System, size: usize, audio: u32, room: usize) -> bool
+    ensures { λ r. ⌜ r ≡ samplesFit y size audio room ⌝ }
+{
+    (size == layout::frame_bytes(y))
+        & (((0 < audio) & (audio < 9)) & (room <= (layout::positions(y) as usize)))
+}
+
+// The first samples of an audio channel, as many as are lent; nothing where the frame or the list does not fit the system.
+pub fn samples_of(y: System, frame: &[u8], audio: u32, samples: &mut [i32])
+    ensures { λ _. ⌜ now (samples .exit) ≡ samplesLeft y (now (frame .entry)) audio (now (samples .entry)) ⌝ }
+{
+    if !samples_fit(y, frame.len(), audio, samples.len()) {
+        return;
+    }
+    take_half(frame, y, audio - 1, samples);
+}
