@@ -1,5 +1,5 @@
 -- What a row and an audio channel add to the samples and the faults taken before; audio channels count from 0. Assumes nothing.
-use mathlib.Core.Path.{_≡_, sym, ap, ap₂, _∙_}
+use mathlib.Core.Path.{_≡_, refl, sym, ap, ap₂, _∙_}
 use mathlib.Core.Bool.{Bool, true, false, not, _&&_}
 use mathlib.Core.List.{List}
 use Prim.Native.Nat.{ℕ, _+_, _*_, _-_, _/_, _%_, _≤_, _<_}
@@ -10,7 +10,7 @@ use lib.IntN.{ℤ}
 use lib.ListN.{length, take, drop}
 use borrow.Author.Tests.{eqb-true, leb-true, ltb-true, not-true, not-false}
 use Rattle.base.specs.Run.{run, tab}
-use Rattle.base.proofs.Parts.{range-part, length-part}
+use Rattle.base.proofs.Parts.{range-part}
 use Rattle.base.proofs.Picks.{pick-true, pick-false, both-held}
 use Rattle.rules.specs.declared.System.{System}
 use Rattle.rules.specs.declared.Section.the-variants.{Audio}
@@ -27,7 +27,7 @@ use Rattle.rules.proofs.Sound.{half-le, audio-below, row-sequence, sequence-bel
 use Rattle.rules.proofs.Halves.{half-start, rows-le}
 use Rattle.faults.specs.Asked.{nextFaults}
 use Rattle.faults.proofs.Clear.{next-inside}
-use Rattle.rescue.specs.Taken.{heldWord, heldBlock, heldPart, heldSample, Between, samplesFit, samplesLeft, rowFaults, halfFaults}
+use Rattle.rescue.specs.Taken.{heldWord, heldBlock, heldPart, heldSample, Between, samplesFit, samplesLeft, rowSequence, rowFaults, halfFaults}
 use Rattle.rescue.specs.Asked.{PartAsked, RowAsked, HalfAsked, HalfSalvaged}
 use Rattle.rescue.proofs.Between.{between-none, between-next, between-same, between-all}
 
@@ -41,75 +41,70 @@ held-sample y frame c t =
     ap (λ (b : List ℕ). heldWord (names b (difOf c) (sequenceOf s c t) (placeOf s t)) b (byteOf s t))
     (block-in-sequence y frame (difOf c) (sequenceOf s c t) (placeOf s t) (place-in-below Audio (audioOf s t) (audio-below s (half-cases y) t)))
 
--- ---- take_row and survey_row: m is what `half` answers
+-- ---- row_part and row_sequence: m is what `half` answers
 
-module _ (frame : List ℕ) (y : System) (i r m : ℕ) (asked : RowAsked frame y i r) (em : m ≡ halfOf y) where
-  h-is : i / 2 ≡ difOf (i + 1)
-  h-is = omega arith
-
-  q-is : m * (i % 2) + r ≡ halfOf y * halfAt (i + 1) + r
+module _ (y : System) (i r m : ℕ) (em : m ≡ halfOf y) where
+  pub q-is : m * (i % 2) + r ≡ rowSequence y i r
   q-is =
       let e : i % 2 ≡ halfAt (i + 1) = omega arith in
       ap₂ (λ (a b : ℕ). a * b + r) em e
 
+  q-below : r < halfOf y → rowSequence y i r < sequencesOf y
+  q-below l = omega (arith, sequence-below (halfOf y) (i + 1) r (half-cases y) l, half-twice y)
+
+  pub q-small : r < halfOf y → m * (i % 2) + r ≤ 12
+  q-small l = omega (arith, q-is, q-below l, sequences-le y)
+
+  start-is : m * i + r ≡ sequencesOf y * difOf (i + 1) + rowSequence y i r
+  start-is = omega (arith, ap (λ (a : ℕ). a * i) em, half-start y i)
+
+  module _ (frame : List ℕ) (asked : RowAsked frame y i r) where
+    before-row : m * i ≤ m * 7
+    before-row = mul-le-mul-left m (omega (arith, asked .channel))
+
+    pub row-fits : (m * i + r) * 12000 + 12000 ≤ length frame
+    row-fits = omega (arith, em, asked .whole, asked .row, half-twice y, before-row)
+
+    pub row-small : m * i + r ≤ 48
+    row-small = omega (arith, em, before-row, asked .row, half-le (halfOf y) (half-cases y))
+
+    pub row-cut : take ((m * i + r) * 12000 + 12000 - (m * i + r) * 12000) (drop ((m * i + r) * 12000) frame) ≡ sequenceAt y frame (difOf (i + 1)) (rowSequence y i r)
+    unfolding sequenceAt
+    row-cut = range-part ((m * i + r) * 12000) 12000 frame ∙ ap (λ (a : ℕ). take 12000 (drop (a * 12000) frame)) start-is
+
+-- ---- take_row and survey_row
+
+module _ (frame : List ℕ) (y : System) (i r : ℕ) (asked : RowAsked frame y i r) (part : List ℕ) (ep : part ≡ sequenceAt y frame (difOf (i + 1)) (rowSequence y i r)) where
+  h-is : i / 2 ≡ difOf (i + 1)
+  h-is = omega arith
+
   h-below : difOf (i + 1) < 4
   h-below = omega (arith, asked .channel)
 
-  q-below : halfOf y * halfAt (i + 1) + r < sequencesOf y
-  q-below = omega (arith, sequence-below (halfOf y) (i + 1) r (half-cases y) (asked .row), half-twice y)
+  row-long : length (sequenceAt y frame (difOf (i + 1)) (rowSequence y i r)) ≡ 12000
+  row-long = sequence-length y frame (difOf (i + 1)) (rowSequence y i r) (asked .whole) h-below (q-below y i r (halfOf y) refl (asked .row))
 
-  start-is : m * i + r ≡ sequencesOf y * difOf (i + 1) + (halfOf y * halfAt (i + 1) + r)
-  start-is = omega (arith, ap (λ (a : ℕ). a * i) em, half-start y i)
+  pub part-asked : (n : ℕ) → n ≤ positionsOf y → PartAsked part y n
+  part-asked n l = record { whole = ap length ep ∙ row-long; room = l }
 
-  before-row : m * i ≤ 42
-  before-row =
-      let l : i ≤ 7 = omega (arith, asked .channel) in
-      omega (arith, em, half-le (halfOf y) (half-cases y), mul-le-mul-left m l)
+  module _ (q : ℕ) (eq : q ≡ rowSequence y i r) where
+    pub row-taken : (before now : List ℤ) → Between (halfOf y) (9 * rowAt (halfOf y) q) (9 * rowAt (halfOf y) q + 9) (heldPart (halfOf y) part (i / 2) q) before now
+        → Between (halfOf y) (9 * r) (9 * r + 9) (heldSample y frame (i + 1)) before now
+    row-taken before now p =
+        let s = halfOf y in
+        let er : rowAt s (rowSequence y i r) ≡ r = row-sequence s (i + 1) r (half-cases y) (asked .row) in
+        let p′ : Between s (9 * r) (9 * r + 9) (heldPart s (sequenceAt y frame (difOf (i + 1)) (rowSequence y i r)) (difOf (i + 1)) (rowSequence y i r)) before now =
+        rw er at (rw (ep, h-is, eq) at p) in
+        between-same s (9 * r) (9 * r + 9) _ _ before now (λ t lo hi.
+        let e : rowOf s t ≡ r = omega (arith, audio-below s (half-cases y) t) in
+        ap (λ (j : ℕ). heldPart s (sequenceAt y frame (difOf (i + 1)) (rowSequence y i j)) (difOf (i + 1)) (rowSequence y i j) t) (sym e)
+        ∙ held-sample y frame (i + 1) t) p′
 
-  pub row-fits : (m * i + r) * 12000 + 12000 ≤ length frame
-  row-fits =
-      let l : i ≤ 7 = omega (arith, asked .channel) in
-      omega (arith, em, asked .whole, asked .row, half-twice y, mul-le-mul-left m l)
-
-  pub row-small : m * i + r ≤ 48
-  row-small = omega (arith, before-row, asked .row, half-le (halfOf y) (half-cases y))
-
-  pub q-small : m * (i % 2) + r ≤ 12
-  q-small = omega (arith, q-is, q-below, sequences-le y)
-
-  row-part : take ((m * i + r) * 12000 + 12000 - (m * i + r) * 12000) (drop ((m * i + r) * 12000) frame) ≡ sequenceAt y frame (difOf (i + 1)) (halfOf y * halfAt (i + 1) + r)
-  unfolding sequenceAt
-  row-part = range-part ((m * i + r) * 12000) 12000 frame ∙ ap (λ (a : ℕ). take 12000 (drop (a * 12000) frame)) start-is
-
-  row-long : length (take ((m * i + r) * 12000 + 12000 - (m * i + r) * 12000) (drop ((m * i + r) * 12000) frame)) ≡ 12000
-  row-long = ap length (range-part ((m * i + r) * 12000) 12000 frame) ∙ length-part ((m * i + r) * 12000) 12000 frame row-fits
-
-  pub part-asked : (room : ℕ) → room ≤ positionsOf y → PartAsked (take ((m * i + r) * 12000 + 12000 - (m * i + r) * 12000) (drop ((m * i + r) * 12000) frame)) y room
-  part-asked room l = record { whole = row-long; room = l }
-
-  pub row-taken : (before now : List ℤ)
-      → Between (halfOf y) (9 * rowAt (halfOf y) (m * (i % 2) + r)) (9 * rowAt (halfOf y) (m * (i % 2) + r) + 9)
-      (heldPart (halfOf y) (take ((m * i + r) * 12000 + 12000 - (m * i + r) * 12000) (drop ((m * i + r) * 12000) frame)) (i / 2) (m * (i % 2) + r)) before now
-      → Between (halfOf y) (9 * r) (9 * r + 9) (heldSample y frame (i + 1)) before now
-  row-taken before now p =
-      let s = halfOf y in
-      let q = s * halfAt (i + 1) + r in
-      let er : rowAt s q ≡ r = row-sequence s (i + 1) r (half-cases y) (asked .row) in
-      let p′ : Between s (9 * r) (9 * r + 9) (heldPart s (sequenceAt y frame (difOf (i + 1)) q) (difOf (i + 1)) q) before now =
-      rw er at (rw (row-part, h-is, q-is) at p) in
-      between-same s (9 * r) (9 * r + 9) _ _ before now (λ t lo hi.
-      let e : rowOf s t ≡ r = omega (arith, audio-below s (half-cases y) t) in
-      ap (λ (j : ℕ). heldPart s (sequenceAt y frame (difOf (i + 1)) (s * halfAt (i + 1) + j)) (difOf (i + 1)) (s * halfAt (i + 1) + j) t) (sym e)
-      ∙ held-sample y frame (i + 1) t) p′
-
-  pub row-noted : (list list′ : List ℕ) (t total : ℕ) → t ≤ 7200
-      → Noted list t (nextFaults y (i / 2) (m * (i % 2) + r) (take ((m * i + r) * 12000 + 12000 - (m * i + r) * 12000) (drop ((m * i + r) * 12000) frame)) t) list′ total
-      → Noted list t (rowFaults y frame i r) list′ total
-  row-noted list list′ t total l n =
-      let h = difOf (i + 1) in
-      let q = halfOf y * halfAt (i + 1) + r in
-      let long = sequence-length y frame h q (asked .whole) h-below q-below in
-      rw (next-inside y h q (sequenceAt y frame h q) t h-below q-below long (omega arith)) at (rw (row-part, h-is, q-is) at n)
+    pub row-noted : (list list′ : List ℕ) (t total : ℕ) → t ≤ 7200 → Noted list t (nextFaults y (i / 2) q part t) list′ total → Noted list t (rowFaults y frame i r) list′ total
+    row-noted list list′ t total l n =
+        let h = difOf (i + 1) in
+        let inside = next-inside y h (rowSequence y i r) (sequenceAt y frame h (rowSequence y i r)) t h-below (q-below y i r (halfOf y) refl (asked .row)) row-long (omega arith) in
+        rw inside at (rw (ep, h-is, eq) at n)
 
 -- ---- take_half and salvage_half
 

@@ -1,14 +1,33 @@
 // The samples of an audio channel, sequence by sequence. Its sequences are its rows, and audio channels count from 0 here.
 ghost use mathlib.Core.Path.{_≡_};
-ghost use Prim.Native.Nat.{_+_, _*_, _≤_};
+ghost use Prim.Native.Nat.{_+_, _*_, _≤_, _<_};
 ghost use lib.ListN.{length};
 ghost use Rattle.rules.specs.Systems.{halfOf, positionsOf};
+ghost use Rattle.rules.specs.Blocks.{sequenceAt};
+ghost use Rattle.rules.specs.Sound.{difOf};
 ghost use Rattle.rules.specs.Noting.{Noted};
-ghost use Rattle.rescue.specs.Taken.{heldSample, Between, samplesFit, samplesLeft, rowFaults};
+ghost use Rattle.rescue.specs.Taken.{heldSample, Between, samplesFit, samplesLeft, rowSequence, rowFaults};
 ghost use Rattle.rescue.specs.Asked.{RowAsked, HalfAsked, HalfSalvaged};
 use crate::words;
 use layout::SEQUENCE;
 use rules::System;
+
+// The bytes of row r.
+fn row_part(frame: &[u8], y: System, i: u32, r: u32) -> &[u8]
+    requires { ⌜ RowAsked (now frame) y i r ⌝ }
+    ensures { λ part. ⌜ now part ≡ sequenceAt y (now (frame .entry)) (difOf (i + 1)) (rowSequence y i r) ⌝ }
+{
+    let at = ((layout::half(y) * i + r) as usize) * SEQUENCE;
+    &frame[at..at + SEQUENCE]
+}
+
+// Its number in the DIF channel.
+fn row_sequence(y: System, i: u32, r: u32) -> u32
+    requires { ⌜ r < halfOf y ⌝ }
+    ensures { λ q. ⌜ q ≡ rowSequence y i r ⌝ }
+{
+    layout::half(y) * (i % 2) + r
+}
 
 // The samples of row r.
 fn take_row(frame: &[u8], y: System, i: u32, r: u32, samples: &mut [i32])
@@ -16,15 +35,8 @@ fn take_row(frame: &[u8], y: System, i: u32, r: u32, samples: &mut [i32])
     requires { ⌜ length (now samples) ≤ positionsOf y ⌝ }
     ensures { λ _. ⌜ Between (halfOf y) (9 * r) (9 * r + 9) (heldSample y (now (frame .entry)) (i + 1)) (now (samples .entry)) (now (samples .exit)) ⌝ }
 {
-    let s = layout::half(y);
-    let at = ((s * i + r) as usize) * SEQUENCE;
-    words::take_part(
-        &frame[at..at + SEQUENCE],
-        y,
-        i / 2,
-        s * (i % 2) + r,
-        samples,
-    );
+    let part = row_part(frame, y, i, r);
+    words::take_part(part, y, i / 2, row_sequence(y, i, r), samples);
 }
 
 // The faults of row r, where t came before.
@@ -33,16 +45,8 @@ fn survey_row(frame: &[u8], y: System, i: u32, r: u32, list: &mut [u32], t: u32)
     requires { ⌜ t ≤ 7200 ⌝ }
     ensures { λ total. ⌜ Noted (now (list .entry)) t (rowFaults y (now (frame .entry)) i r) (now (list .exit)) total ⌝ }
 {
-    let s = layout::half(y);
-    let at = ((s * i + r) as usize) * SEQUENCE;
-    faults::survey_next(
-        y,
-        i / 2,
-        s * (i % 2) + r,
-        &frame[at..at + SEQUENCE],
-        list,
-        t,
-    )
+    let part = row_part(frame, y, i, r);
+    faults::survey_next(y, i / 2, row_sequence(y, i, r), part, list, t)
 }
 
 // The samples of an audio channel.
