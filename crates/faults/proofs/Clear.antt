@@ -9,7 +9,7 @@ use lib.Dec.{eqb, ltb}
 use lib.ListN.{length, take, drop, getD}
 use mir.Syntax.{w32}
 use mir.Val.{Fits}
-use borrow.Author.Tests.{eq-eqb, ne-eqb, eqb-true, lt-ltb, le-ltb}
+use borrow.Author.Tests.{eq-eqb, ne-eqb, eqb-true, lt-leb, lt-ltb, le-ltb}
 use Rattle.base.specs.Run.{run}
 use Rattle.base.proofs.Parts.{range-part, length-part}
 use Rattle.base.proofs.Picks.{pick-true, pick-false, both-held}
@@ -57,6 +57,11 @@ module _ (y : System) (h q : ℕ) (part list : List ℕ) (t : ℕ) (o : Bool) (e
       pub next-surveyed : t < 8000 → (list′ : List ℕ) (r : ℕ) → Noted list t (sequenceFaults part h q) list′ r → Noted list t (nextFaults y h q part t) list′ r
       unfolding nextFaults
       next-surveyed l list′ r n = rw (inside, eq-eqb _ _ e, lt-ltb t 8000 l) (rw (pick-true (sequenceFaults part h q) [] refl) n)
+
+-- a sequence of the system, after few faults
+pub next-inside : (y : System) (h q : ℕ) (part : List ℕ) (t : ℕ) → h < 4 → q < sequencesOf y → length part ≡ 12000 → t < 8000 → nextFaults y h q part t ≡ sequenceFaults part h q
+unfolding nextFaults
+next-inside y h q part t hh hq e l = rw (lt-leb _ _ hh, lt-leb _ _ hq, eq-eqb _ _ e, lt-ltb t 8000 l) (pick-true _ _ refl)
 
 -- what the survey of the sequence asks
 pub next-asked : (y : System) (h q : ℕ) (part : List ℕ) (t : ℕ) (o : Bool) → o ≡ outsideSequences (Known y) h q → o ≡ false → length part ≡ 12000 → t < 8000 → PartAsked part h q t

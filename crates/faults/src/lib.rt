@@ -9,6 +9,8 @@ mod views;
 pub use block::names_entry;
 pub use first::first_fault;
 pub use frame::survey;
+pub use list::answered;
+pub use list::refused;
 pub use sequence::survey_next;
 pub use sequence::survey_sequence;
 pub use views::view;

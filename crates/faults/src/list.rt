@@ -36,7 +36,7 @@ fn kept(total: u32, size: usize) -> u32
 }
 
 // The answer of a survey that went through, of a list of so many numbers.
-pub(crate) fn answered(total: u32, size: usize) -> Survey
+pub fn answered(total: u32, size: usize) -> Survey
     ensures { λ r. ⌜ r ≡ tallied total size ⌝ }
 {
     Survey {
@@ -47,7 +47,7 @@ pub(crate) fn answered(total: u32, size: usize) -> Survey
 }
 
 // A refusal: its number, and zeros.
-pub(crate) fn refused(number: u32) -> Survey
+pub fn refused(number: u32) -> Survey
     ensures { λ r. ⌜ r ≡ refusal number ⌝ }
 {
     Survey {

@@ -10,6 +10,7 @@ pub mod Samples
 pub mod Sound
 pub mod Picture
 pub mod Faults
+pub mod Halves
 pub mod Records
 pub mod Judging
 pub mod Check

@@ -1,0 +1,4 @@
+pub mod Between
+pub mod Ways
+pub mod Halving
+pub mod Whole

@@ -1,0 +1,55 @@
+-- What the private functions ask and say.
+use mathlib.Core.Path.{_≡_}
+use mathlib.Core.List.{List}
+use Prim.Native.Nat.{ℕ, _+_, _*_, _≤_, _<_}
+use lib.IntN.{ℤ}
+use lib.ListN.{length}
+use Rattle.rules.specs.declared.System.{System}
+use Rattle.rules.specs.Systems.{sequencesOf, halfOf, positionsOf}
+use Rattle.rules.specs.Faults.{frameFaults}
+use Rattle.rules.specs.Noting.{Noted}
+use Rattle.rules.specs.Salvage.{salvaged}
+use Rattle.rescue.specs.Taken.{heldSample, Between, halfFaults}
+
+-- the words of a block, for n samples
+pub record WordsAsked (block : List ℕ) (first step n : ℕ) : Type 0 where
+  pub whole : length block ≡ 80
+  pub start : first < step
+  pub small : step ≤ 54
+  pub room : n ≤ 36 * step
+
+-- audio block a, for n samples
+pub record BlockAsked (block : List ℕ) (y : System) (a n : ℕ) : Type 0 where
+  pub whole : length block ≡ 80
+  pub audio : a < 9
+  pub room : n ≤ positionsOf y
+
+pub record PartAsked (part : List ℕ) (y : System) (n : ℕ) : Type 0 where
+  pub whole : length part ≡ 12000
+  pub room : n ≤ positionsOf y
+
+-- row r of audio channel i + 1
+pub record RowAsked (frame : List ℕ) (y : System) (i r : ℕ) : Type 0 where
+  pub whole : length frame ≡ 48000 * sequencesOf y
+  pub channel : i < 8
+  pub row : r < halfOf y
+
+-- audio channel i + 1, where t faults came before
+pub record HalfAsked (frame : List ℕ) (y : System) (i t : ℕ) : Type 0 where
+  pub whole : length frame ≡ 48000 * sequencesOf y
+  pub channel : i < 8
+  pub few : t ≤ 6300
+
+-- its sound is taken, and its faults are noted
+pub record HalfSalvaged (y : System) (frame : List ℕ) (i t : ℕ) (samples samples′ : List ℤ) (list list′ : List ℕ) (r : ℕ) : Type 0 where
+  pub sound : Between (halfOf y) 0 (9 * halfOf y) (heldSample y frame (i + 1)) samples samples′
+  pub noted : Noted list t (halfFaults y frame i) list′ r
+
+pub record FrameAsked (frame : List ℕ) (y : System) (size : ℕ) : Type 0 where
+  pub whole : length frame ≡ 48000 * sequencesOf y
+  pub samples : size ≡ 8 * positionsOf y
+
+-- the sound of every audio channel, and the faults of the frame
+pub record FrameSalvaged (y : System) (frame : List ℕ) (samples′ : List ℤ) (list list′ : List ℕ) (r : ℕ) : Type 0 where
+  pub sound : samples′ ≡ salvaged y frame
+  pub noted : Noted list 0 (frameFaults y frame) list′ r
