@@ -1,32 +1,48 @@
 -- The ways out of the strict reads. s is what the code's `system_of` answers. Assumes nothing.
 use mathlib.Core.Path.{_≡_, refl, sym, ap, _∙_}
-use mathlib.Core.List.{List, []}
+use mathlib.Core.Bool.{true, _&&_}
+use mathlib.Core.List.{List, [], _∷_, _++_}
 use Prim.Native.Nat.{ℕ, _+_, _*_, _-_, _/_, _%_, _≤_, _<_}
 use native.Mathlib.Omega.{arith}
+use lib.Dec.{eqb, ltb, leb}
+use lib.IntN.{ℤ}
 use lib.ListN.{length, take, drop, length-drop}
-use lib.Seq.{take-all}
+use lib.Seq.{take-all, length-take-le}
+use borrow.Author.Tests.{eq-eqb, le-leb, ltb-true}
+use Rattle.base.specs.Run.{tab}
 use Rattle.base.proofs.Parts.{length-part, range-part, part-part}
+use Rattle.base.proofs.Picks.{pick-true, both-held, both-hold}
+use Rattle.base.proofs.Runs.{run-same}
 use Rattle.rules.specs.declared.System.{System}
 use Rattle.rules.specs.declared.SystemNumber.{SystemNumber}
 use Rattle.rules.specs.declared.SystemNumber.the-variants.{Known, NoSystem}
 use Rattle.rules.specs.declared.Section.the-variants.{Video}
 use Rattle.rules.specs.declared.Pack.{Pack}
+use Rattle.rules.specs.declared.Sample.{Sample}
 use Rattle.rules.specs.declared.Slot.{Slot}
 use Rattle.rules.specs.declared.Carried.the-variants.{Macroblock}
 use Rattle.rules.specs.declared.Carrier.{Carrier}
 use Rattle.rules.specs.declared.Carrier.the-variants.{In, NoSlot}
+use Rattle.rules.specs.declared.AudioAnswer.{AudioAnswer}
 use Rattle.rules.specs.declared.TimeAnswer.{TimeAnswer}
-use Rattle.rules.specs.Systems.{sequencesOf, macroblocksOf, systemOf}
+use Rattle.rules.specs.Systems.{sequencesOf, positionsOf, macroblocksOf, systemOf}
 use Rattle.rules.specs.Places.{placeIn}
 use Rattle.rules.specs.Blocks.{startOf, blockAt}
+use Rattle.rules.specs.Samples.{numberOf}
 use Rattle.rules.specs.Picture.{carriedIn, carrierOf, carriedBy}
+use Rattle.rules.specs.Reading.{readSample}
+use Rattle.rules.specs.Audio.{countFor, isAudio, audioNumber, AudioRead}
 use Rattle.rules.specs.Macroblock.{macroblockNumber, slotBytes, MacroblockNumbered, MacroblockRead}
 use Rattle.rules.specs.Time.{timeFirst, groupFirst, settled, timeNumber, fourBytes, timeRefused, TimeRead}
 use Rattle.rules.proofs.Systems.{sequences-le}
 use Rattle.rules.proofs.Blocks.{before-channel}
+use Rattle.rules.proofs.Check.{rows-mean}
+use Rattle.rules.proofs.Reading.{salvaged-named, sound-clean}
+use Rattle.rules.proofs.Audio.{audio-1, audio-zero, audio-stopped, audio-count, audio-done}
 use Rattle.rules.proofs.Macroblock.{macroblock-1, macroblock-zero, macroblock-refused, macroblock-taken}
 use Rattle.rules.proofs.Picture.{carrier-carries, carried-inside}
 use Rattle.rules.proofs.Time.{time-1, time-stopped, time-done}
+use Rattle.rescue.specs.Taken.{heldSample, samplesFit, samplesLeft}
 use Rattle.reader.specs.Asked.{SlotAsked, SlotStart}
 
 -- ---- slot_start
@@ -104,3 +120,44 @@ module _ (k : ℕ) (frame : List ℕ) (s : SystemNumber) (es : s ≡ systemOf k)
       → group ≡ groupFirst y frame → (a b : List ℕ) → a ≡ fourBytes time → b ≡ fourBytes group → TimeRead k frame (record { number = 0; time = a; group = b })
   time-answered y e n en z first time group ef et eg a b ea eb =
       time-done k frame y (sym es ∙ e) (sym en ∙ z) _ (rw (ea, eb, et, ef, eg) refl)
+
+-- ---- read_audio: n is the number, count what the first AS says
+
+module _ (k : ℕ) (frame : List ℕ) (c : ℕ) (list : List ℤ) (s : SystemNumber) (es : s ≡ systemOf k) where
+  pub audio-refused-1 : (r : AudioAnswer) → s ≡ NoSystem → r ≡ record { number = 1; count = 0 } → AudioRead k frame c list r list
+  audio-refused-1 r e er = audio-stopped k frame c list 1 r (audio-1 k frame c (length list) (sym es ∙ e)) (λ z. omega arith) er
+
+  module _ (y : System) (e : s ≡ Known y) (n : ℕ) (en : n ≡ audioNumber k frame c (length list)) (z : n ≡ 0) (count : ℕ) (ec : count ≡ countFor y frame c) where
+    known : systemOf k ≡ Known y
+    known = sym es ∙ e
+
+    none : audioNumber k frame c (length list) ≡ 0
+    none = sym en ∙ z
+
+    -- the count is within the list
+    pub audio-ends : count ≤ length list
+    audio-ends = omega (arith, ec, audio-count k frame c list y known none)
+
+    -- and so many are lent
+    pub audio-lent : count ≡ length (take count list)
+    audio-lent = sym (length-take-le count list audio-ends)
+
+    -- what is salvaged of a frame without faults is what is read
+    as-read : (m : ℕ) → tab (heldSample y frame c) m ≡ tab (λ (t : ℕ). numberOf (readSample y frame c t)) m
+    unfolding tab
+    as-read m =
+        let zeros = audio-zero k frame c (length list) y known none in
+        let two = both-held (ltb 0 c) (ltb c 9) (zeros .1) in
+        let clean = rows-mean y frame (zeros .3) .0 in
+        run-same _ _ m (λ t _. ap (λ (x : Sample). numberOf x ∷ []) (salvaged-named y frame c t (sound-clean y frame c t clean (ltb-true _ _ (two .0)) (ltb-true _ _ (two .1)))))
+
+    pub audio-heard : (part : List ℤ) → part ≡ samplesLeft y frame c (take count list) → AudioRead k frame c list (record { number = 0; count = count }) (part ++ drop count list)
+    unfolding samplesLeft samplesFit
+    audio-heard part ep =
+        let zeros = audio-zero k frame c (length list) y known none in
+        let room : length (take count list) ≤ positionsOf y = omega (arith, audio-lent, audio-ends, zeros .2) in
+        let fits : (eqb (length frame) (48000 * sequencesOf y) && (isAudio c && leb (length (take count list)) (positionsOf y))) ≡ true =
+        both-hold (eq-eqb _ _ (zeros .0)) (both-hold (zeros .1) (le-leb _ _ room)) in
+        let part-is : part ≡ tab (λ (t : ℕ). numberOf (readSample y frame c t)) (countFor y frame c) =
+        ep ∙ pick-true _ _ fits ∙ as-read (length (take count list)) ∙ ap (tab (λ (t : ℕ). numberOf (readSample y frame c t))) (sym audio-lent ∙ ec) in
+        audio-done k frame c list y known none (record { number = 0; count = count }) (part ++ drop count list) (rw ec refl) (rw (part-is, ec) refl)
