@@ -182,8 +182,8 @@ whole-asked y frame n en w = eqb-true _ _ (not-false _ w) ∙ en
 -- ---- picture_number
 
 module _ (y : System) (frame : List ℕ) (a : Bool) (ea : a ≡ everySequence y frame (unflagged 2)) where
-  pub picture-passes : a ≡ true → 0 ≡ firstOf (pictureRows y frame)
-  picture-passes e = picture-0 y frame (sym ea ∙ e)
+  pub picture-marked : not a ≡ true → 23 ≡ firstOf (pictureRows y frame)
+  picture-marked e = picture-23 y frame (sym ea ∙ not-true _ e)
 
-  pub picture-marked : a ≡ false → 23 ≡ firstOf (pictureRows y frame)
-  picture-marked e = picture-23 y frame (sym ea ∙ e)
+  pub picture-passes : not a ≡ false → 0 ≡ firstOf (pictureRows y frame)
+  picture-passes e = picture-0 y frame (sym ea ∙ not-false _ e)

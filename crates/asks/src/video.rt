@@ -11,10 +11,11 @@ use rules::SystemNumber;
 fn picture_number(y: System, frame: &[u8]) -> u32
     ensures { λ r. ⌜ r ≡ firstOf (pictureRows y (now (frame .entry))) ⌝ }
 {
-    if judges::every_sequence(y, frame, Test::Unflagged(2)) {
-        return 0;
+    let unmarked = judges::every_sequence(y, frame, Test::Unflagged(2));
+    if !unmarked {
+        return 23;
     }
-    23
+    0
 }
 
 // The number of a macroblock read: 1, 2, 3, the frame check's, 23.

@@ -1,5 +1,6 @@
 // Packs by value: what is written, and what is judged.
 mod aaux;
+mod bytes;
 mod subcode;
 mod time;
 mod vaux;
@@ -8,6 +9,7 @@ pub use aaux::aaux_pack;
 pub use aaux::as_at;
 pub use aaux::as_ok;
 pub use aaux::count_in;
+pub use bytes::pack_of;
 pub use subcode::kind_of;
 pub use subcode::subcode_pack;
 pub use time::group_ok;

@@ -34,7 +34,8 @@ pub fn read_time(system: u32, frame: &[u8]) -> TimeAnswer
     if number != 0 {
         return refused(number);
     }
-    let time = judges::settled(y, judges::time_first(y, frame));
+    let first = judges::time_first(y, frame);
+    let time = judges::settled(y, first);
     let group = judges::group_first(y, frame);
     TimeAnswer {
         number: 0,

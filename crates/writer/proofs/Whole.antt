@@ -1,16 +1,14 @@
 -- Each way out of the writers of a block, a sequence, a DIF channel and the frame, and of the call. Assumes nothing.
 use mathlib.Core.Path.{_≡_, refl, sym, ap, ap₂, _∙_}
-use mathlib.Core.Bool.{Bool, true, false, not}
 use mathlib.Core.List.{List, [], _++_, append-nil, append-assoc}
 use Prim.Native.Nat.{ℕ, _+_, _-_, _*_, _/_, _%_, _≤_, _<_}
 use native.Mathlib.Omega.{arith}
-use lib.Dec.{eqb, ltb}
+use lib.Dec.{ltb}
 use lib.IntN.{ℤ}
 use lib.ListN.{length, take, drop, drop-of-length-le, length-append}
 use lib.Seq.{take-at, drop-at, drop-drop}
 use mir.Syntax.{w64}
 use mir.Val.{Fits}
-use borrow.Author.Tests.{not-true, not-false}
 use borrow.Rule.Slice.PartMut.{putMid, postOf}
 use Rattle.base.specs.Run.{run, Wide}
 use Rattle.base.proofs.Runs.{end-within, run-same, run-split, run-rows, length-run}
@@ -21,22 +19,19 @@ use Rattle.rules.specs.declared.SystemNumber.{SystemNumber}
 use Rattle.rules.specs.declared.SystemNumber.the-variants.{Known, NoSystem}
 use Rattle.rules.specs.declared.Section.the-variants.{Header, Subcode, Vaux, Audio, Video}
 use Rattle.rules.specs.declared.BlockId.{BlockId}
-use Rattle.rules.specs.declared.Pack.{Pack}
-use Rattle.rules.specs.Systems.{sequencesOf, halfOf, isCount, systemOf}
+use Rattle.rules.specs.Systems.{sequencesOf, halfOf, systemOf}
 use Rattle.rules.specs.Places.{placeIn}
 use Rattle.rules.specs.Ids.{idBytes, idOf}
-use Rattle.rules.specs.Packs.{packOf}
 use Rattle.rules.specs.Header.{headerBytes}
-use Rattle.rules.specs.TimeCode.{timePack, groupPack, timeTaken}
+use Rattle.rules.specs.TimeCode.{timePack, groupPack}
 use Rattle.rules.specs.Subcode.{subcodeBytes}
 use Rattle.rules.specs.Vaux.{vauxBytes}
-use Rattle.rules.specs.Samples.{allInRange}
 use Rattle.rules.specs.Picture.{slot, carriedIn}
 use Rattle.rules.specs.Written.{Lent, audioBytes, carriedBytes, videoBytes, payload, writtenBlock, writtenSequence, writtenChannel, writtenFrame}
-use Rattle.rules.specs.Write.{lent, lengthsOk, writeNumber, Wrote}
+use Rattle.rules.specs.Write.{lent, writeNumber, Wrote}
 use Rattle.rules.proofs.Systems.{sequences-le}
 use Rattle.rules.proofs.Written.{block-entry, block-wide, sequence-wide, channel-wide}
-use Rattle.rules.proofs.Write.{write-1, write-2, write-3, write-4, write-31, write-32, write-0, taken-takes, write-stopped, write-done}
+use Rattle.rules.proofs.Write.{write-1, taken-takes, write-stopped, write-done}
 use Rattle.writer.specs.Asked.{AudioAsked, VideoAsked, PartAsked, RowAsked, ChannelPartAsked, FrameAsked}
 use Rattle.writer.specs.Rows.{subcodeBlocks, headBlocks, vauxBlocks, rowVideo, rowBlocks, allRows}
 
@@ -302,42 +297,6 @@ module _ (y : System) (h n : ℕ) (en : n ≡ sequencesOf y) where
     }
 
 -- ---- the call
-
-pub way-1 : (k : ℕ) (l : Lent) (size : ℕ) (r : SystemNumber) → r ≡ systemOf k → r ≡ NoSystem → 1 ≡ writeNumber k l size
-way-1 k l size r er en = write-1 k l size (sym er ∙ en)
-
-module _ (k y-size : ℕ) (y : System) (r : SystemNumber) (er : r ≡ systemOf k) (ey : r ≡ Known y) (es : y-size ≡ 48000 * sequencesOf y) where
-  known : systemOf k ≡ Known y
-  known = sym er ∙ ey
-
-  module _ (count : ℕ) (sound : List ℤ) (macroblocks time group : List ℕ) (size : ℕ) where
-    pub way-2 : not (eqb size y-size) ≡ true → 2 ≡ writeNumber k (lent count sound macroblocks time group) size
-    way-2 t = write-2 k _ size y known (rw (← es) (not-true _ t))
-
-    module _ (whole : not (eqb size y-size) ≡ false) (counted : Bool) (ec : counted ≡ isCount y count) where
-      is-whole : eqb size (48000 * sequencesOf y) ≡ true
-      is-whole = rw (← es) (not-false _ whole)
-
-      pub way-3 : not counted ≡ true → 3 ≡ writeNumber k (lent count sound macroblocks time group) size
-      way-3 t = write-3 k _ size y known is-whole (sym ec ∙ not-true _ t)
-
-      module _ (c : not counted ≡ false) (lengths : Bool) (el : lengths ≡ lengthsOk (lent count sound macroblocks time group) y) where
-        pub way-4 : not lengths ≡ true → 4 ≡ writeNumber k (lent count sound macroblocks time group) size
-        way-4 t = write-4 k _ size y known is-whole (sym ec ∙ not-false _ c) (sym el ∙ not-true _ t)
-
-        module _ (d : not lengths ≡ false) (sampled : Bool) (em : sampled ≡ allInRange sound) where
-          pub way-31 : not sampled ≡ true → 31 ≡ writeNumber k (lent count sound macroblocks time group) size
-          way-31 t = write-31 k _ size y known is-whole (sym ec ∙ not-false _ c) (sym el ∙ not-false _ d) (sym em ∙ not-true _ t)
-
-          module _ (f : not sampled ≡ false) (p : Pack) (timed : Bool) (ep : p ≡ packOf 19 time) (et : timed ≡ timeTaken y p) where
-            is-timed : timed ≡ timeTaken y (timePack time)
-            is-timed = et ∙ ap (timeTaken y) ep
-
-            pub way-32 : not timed ≡ true → 32 ≡ writeNumber k (lent count sound macroblocks time group) size
-            way-32 t = write-32 k _ size y known is-whole (sym ec ∙ not-false _ c) (sym el ∙ not-false _ d) (sym em ∙ not-false _ f) (sym is-timed ∙ not-true _ t)
-
-            pub way-0 : not timed ≡ false → 0 ≡ writeNumber k (lent count sound macroblocks time group) size
-            way-0 t = write-0 k _ size y known is-whole (sym ec ∙ not-false _ c) (sym el ∙ not-false _ d) (sym em ∙ not-false _ f) (sym is-timed ∙ not-false _ t)
 
 -- what is in order has the lengths that the writers ask
 pub frame-asked : (k n : ℕ) (y : System) (r : SystemNumber) (l : Lent) (frame : List ℕ) → r ≡ systemOf k → r ≡ Known y → n ≡ writeNumber k l (length frame) → n ≡ 0 → FrameAsked frame y l

@@ -4,7 +4,7 @@ ghost use mathlib.Core.List.{[], _∷_};
 ghost use Prim.Native.Nat.{_<_};
 ghost use lib.ListN.{length};
 ghost use Rattle.rules.specs.Ids.{idBytes};
-ghost use Rattle.rules.specs.Packs.{packBytes, packOf};
+ghost use Rattle.rules.specs.Packs.{packBytes};
 ghost use Rattle.rules.specs.Samples.{bytesOf};
 ghost use Rattle.writer.specs.Asked.{WordAsked};
 use rules::BlockId;
@@ -52,17 +52,4 @@ pub(crate) fn put_word(part: &mut [u8], word: u32)
 {
     part[0] = (word / 256) as u8;
     part[1] = (word % 256) as u8;
-}
-
-// A pack of a header and four bytes.
-pub(crate) fn pack_of(header: u8, bytes: &[u8]) -> Pack
-    ensures { λ r. ⌜ r ≡ packOf header (now (bytes .entry)) ⌝ }
-{
-    Pack {
-        pc0: header,
-        pc1: base::byte_at(bytes, 0),
-        pc2: base::byte_at(bytes, 1),
-        pc3: base::byte_at(bytes, 2),
-        pc4: base::byte_at(bytes, 3),
-    }
 }

@@ -58,8 +58,8 @@ pub(crate) fn write_subcode(
     put_ssybs(
         &mut block[3..51],
         first,
-        parts::pack_of(0x13, time),
-        parts::pack_of(0x14, group),
+        packs::pack_of(0x13, time),
+        packs::pack_of(0x14, group),
         k,
     );
 }
