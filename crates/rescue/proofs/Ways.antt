@@ -52,8 +52,8 @@ step-fits y n e = omega (arith, half-le (halfOf y) (half-cases y))
 
 -- ---- take_block: audio block a of sequence q of DIF channel h
 
-module _ (y : System) (bytes : List ℕ) (h q a : ℕ) (before now : List ℤ) (asked : BlockAsked bytes y a (length before)) (named : Bool) (first n : ℕ)
-    (en : named ≡ eqb (faultOf (blockAnswer bytes) h q (block Audio a)) 0) (ef : first ≡ firstAt (halfOf y) (rowAt (halfOf y) q) (a % 9)) (es : n ≡ halfOf y) where
+module _ (y : System) (bytes : List ℕ) (q a : ℕ) (before : List ℤ) (asked : BlockAsked bytes y a (length before)) (first n : ℕ)
+    (ef : first ≡ firstAt (halfOf y) (rowAt (halfOf y) q) (a % 9)) (es : n ≡ halfOf y) where
   row-some : rowAt (halfOf y) q < halfOf y
   row-some = mod-lt q (half-some (halfOf y) (half-cases y))
 
@@ -75,35 +75,37 @@ module _ (y : System) (bytes : List ℕ) (h q a : ℕ) (before now : List ℤ) (
   there : (k : ℕ) → first + 9 * n * k ≡ sampleAt (halfOf y) (rowAt (halfOf y) q) a k
   there k = omega (arith, first-is, ap (λ (j : ℕ). 9 * j * k) es)
 
-  named-there : (t : ℕ) → audioOf (halfOf y) t ≡ a → named ≡ names bytes h q (placeOf (halfOf y) t)
-  unfolding faultAt
-  named-there t e = en ∙ rw (e, entry-place-in Audio a (asked .audio)) refl
+  -- `named` is the answer whether the block names its place
+  module _ (h : ℕ) (named : Bool) (en : named ≡ eqb (faultOf (blockAnswer bytes) h q (block Audio a)) 0) where
+    named-there : (t : ℕ) → audioOf (halfOf y) t ≡ a → named ≡ names bytes h q (placeOf (halfOf y) t)
+    unfolding faultAt
+    named-there t e = en ∙ rw (e, entry-place-in Audio a (asked .audio)) refl
 
-  pub block-taken : Placed first (9 * n) (λ (k : ℕ). heldWord named bytes (8 + 2 * k)) 36 before now
-      → Between (halfOf y) (9 * rowAt (halfOf y) q + a) (9 * rowAt (halfOf y) q + a + 1) (heldBlock (halfOf y) bytes h q) before now
-  unfolding heldBlock
-  block-taken p =
-      let s = halfOf y in
-      let half = half-cases y in
-      let r = rowAt s q in
-      record {
-        size = p .size;
-        taken = λ t l lo hi.
-            let er : rowOf s t ≡ r = omega (arith, audio-below s half t, asked .audio) in
-            let ea : audioOf s t ≡ a = omega (arith, er) in
-            let k = wordNumber s t in
-            let e : first + 9 * n * k ≡ t = there k ∙ ap₂ (λ (i j : ℕ). sampleAt s i j k) (sym er) (sym ea) ∙ sample-back s half t in
-            let room : t < 36 * (9 * s) = omega (arith, asked .room, positions-half y) in
-            ap (λ (i : ℕ). getD now i (pos 0)) (sym e)
-            ∙ p .hit k (word-below s half t room) (omega (arith, e))
-            ∙ ap (λ (b : Bool). heldWord b bytes (8 + 2 * k)) (named-there t ea);
-        others = λ t o.
-            p .miss t (λ k hk e.
-            let at : t ≡ sampleAt s r a k = e ∙ there k in
-            let er : rowOf s t ≡ r = ap (rowOf s) at ∙ row-sample s half r a row-some (asked .audio) k in
-            let ea : audioOf s t ≡ a = ap (audioOf s) at ∙ audio-sample s half r a row-some (asked .audio) k in
-            ⊎-elim (λ below. omega (arith, er, ea)) (λ above. omega (arith, er, ea)) o);
-      }
+    pub block-taken : (now : List ℤ) → Placed first (9 * n) (λ (k : ℕ). heldWord named bytes (8 + 2 * k)) 36 before now
+        → Between (halfOf y) (9 * rowAt (halfOf y) q + a) (9 * rowAt (halfOf y) q + a + 1) (heldBlock (halfOf y) bytes h q) before now
+    unfolding heldBlock
+    block-taken now p =
+        let s = halfOf y in
+        let half = half-cases y in
+        let r = rowAt s q in
+        record {
+          size = p .size;
+          taken = λ t l lo hi.
+              let er : rowOf s t ≡ r = omega (arith, audio-below s half t, asked .audio) in
+              let ea : audioOf s t ≡ a = omega (arith, er) in
+              let k = wordNumber s t in
+              let e : first + 9 * n * k ≡ t = there k ∙ ap₂ (λ (i j : ℕ). sampleAt s i j k) (sym er) (sym ea) ∙ sample-back s half t in
+              let room : t < 36 * (9 * s) = omega (arith, asked .room, positions-half y) in
+              ap (λ (i : ℕ). getD now i (pos 0)) (sym e)
+              ∙ p .hit k (word-below s half t room) (omega (arith, e))
+              ∙ ap (λ (b : Bool). heldWord b bytes (8 + 2 * k)) (named-there t ea);
+          others = λ t o.
+              p .miss t (λ k hk e.
+              let at : t ≡ sampleAt s r a k = e ∙ there k in
+              let er : rowOf s t ≡ r = ap (rowOf s) at ∙ row-sample s half r a row-some (asked .audio) k in
+              let ea : audioOf s t ≡ a = ap (audioOf s) at ∙ audio-sample s half r a row-some (asked .audio) k in
+              ⊎-elim (λ below. omega (arith, er, ea)) (λ above. omega (arith, er, ea)) o);
+        }
 
 -- ---- take_part: audio block a of a sequence, lent from its byte
 
