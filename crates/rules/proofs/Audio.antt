@@ -20,8 +20,9 @@ use Rattle.base.proofs.Runs.{length-tab, tab-at}
 use Rattle.rules.specs.declared.System.{System}
 use Rattle.rules.specs.declared.SystemNumber.the-variants.{Known, NoSystem}
 use Rattle.rules.specs.declared.AudioAnswer.{AudioAnswer}
-use Rattle.rules.specs.Systems.{sequencesOf, positionsOf, isCount, systemOf}
+use Rattle.rules.specs.Systems.{sequencesOf, halfOf, positionsOf, isCount, systemOf}
 use Rattle.rules.specs.Blocks.{sequenceAt}
+use Rattle.rules.specs.Aaux.{As, countIn}
 use Rattle.rules.specs.Samples.{numberOf}
 use Rattle.rules.specs.Sound.{difOf}
 use Rattle.rules.specs.Check.{everySequence, unflagged, checkRows}
@@ -69,6 +70,17 @@ module _ (y : System) (frame : List ℕ) (c : ℕ) where
   count-own e =
       let first = from-means y frame (asKeeps y c) _ _ _ e 0 (half-some _ (half-cases y)) in
       as-means y c (asIn (firstOfHalf y c) (sequenceAt y frame (difOf c) (firstOfHalf y c))) (simp add-zero at first) .count
+
+  -- not 24, not 25: every AS of the channel keeps the rules, and says the count that is answered
+  module _ (r : ℕ) (hr : r < halfOf y) where
+    pub as-row : everyRow y frame c (asKeeps y c) ≡ true → As y c (asIn (firstOfHalf y c + r) (sequenceAt y frame (difOf c) (firstOfHalf y c + r)))
+    as-row e =
+        as-means y c (asIn (firstOfHalf y c + r) (sequenceAt y frame (difOf c) (firstOfHalf y c + r)))
+        (from-means y frame (asKeeps y c) (difOf c) (firstOfHalf y c) (halfOf y) e r hr)
+
+    pub count-row : everyRow y frame c (countIs (countFor y frame c)) ≡ true
+        → countIn (asIn (firstOfHalf y c + r) (sequenceAt y frame (difOf c) (firstOfHalf y c + r))) ≡ countFor y frame c
+    count-row e = eqb-true _ _ (from-means y frame (countIs (countFor y frame c)) (difOf c) (firstOfHalf y c) (halfOf y) e r hr)
 
 -- ---- audioNumber
 

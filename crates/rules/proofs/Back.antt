@@ -10,7 +10,6 @@ use Rattle.base.specs.Calls.{firstOf}
 use Rattle.base.proofs.Picks.{both-hold}
 use Rattle.rules.specs.declared.System.{System}
 use Rattle.rules.specs.declared.SystemNumber.the-variants.{Known}
-use Rattle.rules.specs.declared.Section.{Section}
 use Rattle.rules.specs.declared.Section.the-variants.{Header, Subcode, Vaux, Audio}
 use Rattle.rules.specs.declared.Pack.{Pack}
 use Rattle.rules.specs.declared.Slot.{Slot}
@@ -18,8 +17,8 @@ use Rattle.rules.specs.declared.SubcodePack.{SubcodePack}
 use Rattle.rules.specs.declared.SubcodePack.the-variants.{TimeCode, BinaryGroup, NoPack}
 use Rattle.rules.specs.declared.Carried.the-variants.{Macroblock}
 use Rattle.rules.specs.Systems.{sequencesOf, halfOf, positionsOf, isCount, systemOf}
-use Rattle.rules.specs.Places.{blocksOf, placeIn}
-use Rattle.rules.specs.Blocks.{blockAt, sequenceAt, blockIn}
+use Rattle.rules.specs.Places.{placeIn}
+use Rattle.rules.specs.Blocks.{sequenceAt, blockIn}
 use Rattle.rules.specs.TimeCode.{timePack, groupPack, timeTaken}
 use Rattle.rules.specs.Subcode.{isFirst, kindOf, subcodePack, ssybPack}
 use Rattle.rules.specs.Vaux.{vsAt, vauxBlock, vauxIn, vsOk}
@@ -35,24 +34,18 @@ use Rattle.rules.specs.Macroblock.{pictureRows, slotBytes}
 use Rattle.rules.specs.Time.{ssybIn, timeFirst, groupFirst, settled, packAgrees, subcodeAgrees, timeRows}
 use Rattle.rules.specs.Written.{Lent, storedWord, writtenFrame}
 use Rattle.rules.proofs.Systems.{half-cases, sequences-some}
-use Rattle.rules.proofs.Places.{place-in-below}
-use Rattle.rules.proofs.Blocks.{block-in-sequence}
 use Rattle.rules.proofs.Packs.{taken-means, taken-ok, group-when}
 use Rattle.rules.proofs.Subcode.{first-when}
 use Rattle.rules.proofs.Vaux.{vs-written, vs-below}
 use Rattle.rules.proofs.Aaux.{as-written, as-count, as-below}
 use Rattle.rules.proofs.Sound.{half-some}
 use Rattle.rules.proofs.Picture.{carried-inside}
-use Rattle.rules.proofs.Check.{from-when, every-when, fault-none, rows-0, check-0}
+use Rattle.rules.proofs.Check.{section-block, from-when, every-when, fault-none, rows-0, check-0}
 use Rattle.rules.proofs.Reading.{salvaged-named}
 use Rattle.rules.proofs.Audio.{audio-0}
 use Rattle.rules.proofs.Macroblock.{picture-0}
 use Rattle.rules.proofs.Time.{settled-set, same-when, subcode-when, time-0}
 use Rattle.rules.proofs.Written.{frame-length, frame-faultless, sound-names, frame-word, frame-macroblock, frame-dsf, frame-flags, frame-subcode, frame-vs, frame-as}
-
--- the block of entry k of a section, in a sequence of a frame
-section-block : (y : System) (frame : List ℕ) (h q : ℕ) (s : Section) (k : ℕ) → k < blocksOf s → blockIn (sequenceAt y frame h q) (placeIn s k) ≡ blockAt y frame h q (placeIn s k)
-section-block y frame h q s k hk = block-in-sequence y frame h q (placeIn s k) (place-in-below s k hk)
 
 module _ (y : System) (l : Lent) where
   f : List ℕ

@@ -1,13 +1,13 @@
 -- The frame check: conditions on sequences, the first fault, the rows of refusals and the call. Assumes nothing.
 use mathlib.Core.Path.{_≡_, refl, sym, ap, _∙_}
-use mathlib.Core.Bool.{Bool, true, false}
+use mathlib.Core.Bool.{Bool, true, false, not}
 use mathlib.Core.List.{List, [], _∷_, _++_}
 use Prim.Native.Nat.{ℕ, zero, suc, _+_, _*_, _/_, _%_, _≤_, _<_}
 use native.Mathlib.Nat.{zero-add, not-suc-le-zero, mul-add-div, mul-add-mod-self-left, div-eq-of-lt, mod-eq-of-lt}
 use native.Mathlib.Omega.{arith}
 use lib.Dec.{eqb}
 use lib.ListN.{length}
-use borrow.Author.Tests.{eq-eqb, ne-eqb, eqb-false}
+use borrow.Author.Tests.{eq-eqb, ne-eqb, eqb-false, not-true}
 use Rattle.base.specs.Calls.{Refusal, firstOf, _when_, ExactlyOne}
 use Rattle.base.specs.Pick.{pick}
 use Rattle.base.specs.Run.{run}
@@ -16,14 +16,20 @@ use Rattle.base.proofs.Cases.{by-bool, by-eq}
 use Rattle.base.proofs.Picks.{pick-true, pick-false}
 use Rattle.rules.specs.declared.System.{System}
 use Rattle.rules.specs.declared.SystemNumber.the-variants.{Known, NoSystem}
+use Rattle.rules.specs.declared.Section.{Section}
+use Rattle.rules.specs.declared.Section.the-variants.{Header}
 use Rattle.rules.specs.declared.Fault.{Fault}
 use Rattle.rules.specs.Systems.{sequencesOf, systemOf}
-use Rattle.rules.specs.Blocks.{blockAt, sequenceAt}
+use Rattle.rules.specs.Places.{blocksOf, placeIn}
+use Rattle.rules.specs.Blocks.{blockAt, sequenceAt, blockIn}
+use Rattle.rules.specs.Header.{dsfOk, flagged}
+use Rattle.rules.specs.Vaux.{vsOk}
 use Rattle.rules.specs.Faults.{faultAt, names, frameFaults}
 use Rattle.rules.specs.Stream.{blocksIn, nthBlock, channelAt, dseqAt, placeAt, named, recordOf, unnamed}
-use Rattle.rules.specs.Check.{everyFrom, everySequence, dsfAgrees, vsAgrees, firstFault, faultIn, checkRows, checkNumber, Checked}
+use Rattle.rules.specs.Check.{everyFrom, everySequence, headerIn, vsIn, dsfAgrees, vsAgrees, unflagged, firstFault, faultIn, checkRows, checkNumber, Checked}
 use Rattle.rules.proofs.Systems.{sequences-some}
-use Rattle.rules.proofs.Blocks.{before-channel}
+use Rattle.rules.proofs.Places.{place-in-below}
+use Rattle.rules.proofs.Blocks.{before-channel, block-in-sequence}
 use Rattle.rules.proofs.Faults.{faults-stream}
 
 -- ---- everyFrom, everySequence: each sequence passes
@@ -56,6 +62,38 @@ module _ (y : System) (frame : List ℕ) (test : ℕ → List ℕ → Bool) wher
   pub every-fails : (h q : ℕ) → h < 4 → q < sequencesOf y → test q (sequenceAt y frame h q) ≡ false → everySequence y frame test ≡ false
   unfolding everySequence
   every-fails h q hh hq e = below-fails (λ (i : ℕ). everyFrom y frame i 0 (sequencesOf y) test) 4 h hh (from-fails h 0 (sequencesOf y) q hq (rw zero-add e))
+
+-- ---- what a sequence says is what its blocks say
+
+-- the block of number k of a section, in a sequence of a frame
+pub section-block : (y : System) (frame : List ℕ) (h q : ℕ) (s : Section) (k : ℕ) → k < blocksOf s → blockIn (sequenceAt y frame h q) (placeIn s k) ≡ blockAt y frame h q (placeIn s k)
+section-block y frame h q s k hk = block-in-sequence y frame h q (placeIn s k) (place-in-below s k hk)
+
+-- a VS is judged where its own header's TF2 is 0, and only there
+pub vs-judged : (y : System) (q : ℕ) (part : List ℕ) → flagged 2 (headerIn part) ≡ false → vsAgrees y q part ≡ vsOk y (vsIn q part)
+vs-judged y q part e = rw e refl
+
+pub vs-unjudged : (y : System) (q : ℕ) (part : List ℕ) → flagged 2 (headerIn part) ≡ true → vsAgrees y q part ≡ true
+vs-unjudged y q part e = rw e refl
+
+module _ (y : System) (frame : List ℕ) (h q : ℕ) (hh : h < 4) (hq : q < sequencesOf y) where
+  header-in : headerIn (sequenceAt y frame h q) ≡ blockAt y frame h q (placeIn Header 0)
+  header-in = section-block y frame h q Header 0 (omega arith)
+
+  -- not 21: every header's DSF agrees
+  pub dsf-each : everySequence y frame (dsfAgrees y) ≡ true → dsfOk y (blockAt y frame h q (placeIn Header 0)) ≡ true
+  dsf-each e = ap (dsfOk y) (sym header-in) ∙ every-means y frame (dsfAgrees y) e h q hh hq
+
+  -- not 22: every VS agrees whose header's TF2 is 0
+  pub vs-each : everySequence y frame (vsAgrees y) ≡ true → flagged 2 (blockAt y frame h q (placeIn Header 0)) ≡ false → vsOk y (vsIn q (sequenceAt y frame h q)) ≡ true
+  vs-each e t = sym (vs-judged y q (sequenceAt y frame h q) (ap (flagged 2) header-in ∙ t)) ∙ every-means y frame (vsAgrees y) e h q hh hq
+
+  -- 23: one header that sets the flag is enough
+  pub flag-some : (k : ℕ) → flagged k (blockAt y frame h q (placeIn Header 0)) ≡ true → everySequence y frame (unflagged k) ≡ false
+  flag-some k e = every-fails y frame (unflagged k) h q hh hq (ap not (ap (flagged k) header-in ∙ e))
+
+  pub flag-each : (k : ℕ) → everySequence y frame (unflagged k) ≡ true → flagged k (blockAt y frame h q (placeIn Header 0)) ≡ false
+  flag-each k e = ap (flagged k) (sym header-in) ∙ not-true _ (every-means y frame (unflagged k) e h q hh hq)
 
 -- ---- firstFault: "the first faulty block in stream order"
 
