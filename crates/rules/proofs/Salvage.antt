@@ -11,7 +11,6 @@ use lib.ListN.{length, getD}
 use borrow.Author.Tests.{eq-eqb, ne-eqb, eqb-true}
 use Rattle.base.specs.Calls.{firstOf, _when_, ExactlyOne}
 use Rattle.base.specs.Pick.{pick}
-use Rattle.base.specs.Run.{Wide}
 use Rattle.base.proofs.Cases.{by-bool}
 use Rattle.base.proofs.Picks.{pick-true, pick-false}
 use Rattle.base.proofs.Runs.{length-run, length-tab, tab-at, run-element}
@@ -29,20 +28,20 @@ use Rattle.rules.proofs.Reading.{salvaged-named, salvaged-lost}
 
 -- ---- salvaged: position t of audio channel c
 
-pub channel-positions : (y : System) (frame : List ℕ) → Wide (positionsOf y) (λ (i : ℕ). salvagedChannel y frame (i + 1))
+pub channel-positions : (y : System) (frame : List ℕ) (c : ℕ) → length (salvagedChannel y frame c) ≡ positionsOf y
 unfolding salvagedChannel
-channel-positions y frame i = length-tab _ (positionsOf y)
+channel-positions y frame c = length-tab _ (positionsOf y)
 
 pub salvaged-length : (y : System) (frame : List ℕ) → length (salvaged y frame) ≡ 8 * positionsOf y
 unfolding salvaged
-salvaged-length y frame = length-run (positionsOf y) (λ (i : ℕ). salvagedChannel y frame (i + 1)) (channel-positions y frame) 8
+salvaged-length y frame = length-run (positionsOf y) _ (λ i. channel-positions y frame _) 8
 
 module _ (y : System) (frame : List ℕ) (c t : ℕ) (c1 : 0 < c) (c8 : c < 9) (ht : t < positionsOf y) where
   pub salvaged-at : getD (salvaged y frame) ((c - 1) * positionsOf y + t) (pos 0) ≡ numberOf (salvagedSample y frame c t)
   unfolding salvaged salvagedChannel
   salvaged-at =
       let e : c - 1 + 1 ≡ c = omega arith in
-      run-element (pos 0) (positionsOf y) (λ (i : ℕ). salvagedChannel y frame (i + 1)) (channel-positions y frame) (c - 1) 8 t (omega arith) ht
+      run-element (pos 0) (positionsOf y) (λ (i : ℕ). salvagedChannel y frame (i + 1)) (λ i. channel-positions y frame (i + 1)) (c - 1) 8 t (omega arith) ht
       ∙ tab-at (pos 0) (λ (i : ℕ). numberOf (salvagedSample y frame (c - 1 + 1) i)) t (positionsOf y) ht
       ∙ ap (λ (x : ℕ). numberOf (salvagedSample y frame x t)) e
 
