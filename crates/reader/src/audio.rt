@@ -21,7 +21,8 @@ pub fn read_audio(system: u32, frame: &[u8], audio: u32, samples: &mut [i32]) ->
     let SystemNumber::Known(y) = layout::system_of(system) else {
         return refused(1);
     };
-    let number = asks::audio_number(system, frame, audio, samples.len());
+    let size = samples.len();
+    let number = asks::audio_number(system, frame, audio, size);
     if number != 0 {
         return refused(number);
     }
