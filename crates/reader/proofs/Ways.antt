@@ -121,6 +121,10 @@ module _ (k : ℕ) (frame : List ℕ) (s : SystemNumber) (es : s ≡ systemOf k)
   time-answered y e n en z first time group ef et eg a b ea eb =
       time-done k frame y (sym es ∙ e) (sym en ∙ z) _ (rw (ea, eb, et, ef, eg) refl)
 
+-- a prefix that is lent has its length
+pub prefix-lent : (n : ℕ) (list : List ℤ) → n ≤ length list → n ≡ length (take n list)
+prefix-lent n list h = sym (length-take-le n list h)
+
 -- ---- read_audio: n is the number, count what the first AS says
 
 module _ (k : ℕ) (frame : List ℕ) (c : ℕ) (list : List ℤ) (s : SystemNumber) (es : s ≡ systemOf k) where
@@ -138,9 +142,8 @@ module _ (k : ℕ) (frame : List ℕ) (c : ℕ) (list : List ℤ) (s : SystemNum
     pub audio-ends : count ≤ length list
     audio-ends = omega (arith, ec, audio-count k frame c list y known none)
 
-    -- and so many are lent
-    pub audio-lent : count ≡ length (take count list)
-    audio-lent = sym (length-take-le count list audio-ends)
+    audio-lent : count ≡ length (take count list)
+    audio-lent = prefix-lent count list audio-ends
 
     -- what is salvaged of a frame without faults is what is read
     as-read : (m : ℕ) → tab (heldSample y frame c) m ≡ tab (λ (t : ℕ). numberOf (readSample y frame c t)) m

@@ -1,9 +1,7 @@
 -- `reader::audio::read_audio` meets its contract: one lemma for each way out; no block of a checked frame is lost. Assumes nothing.
 use borrow.Author.Needs.{needs}
 use Rattle.rules.proofs.Audio.{audio-stopped}
-use Rattle.reader.proofs.Ways.{audio-ends}
-use Rattle.reader.proofs.Ways.{audio-lent, audio-heard}
-use Rattle.reader.proofs.Ways.{audio-refused-1}
+use Rattle.reader.proofs.Ways.{prefix-lent, audio-refused-1, audio-ends, audio-heard}
 use Rattle.reader.proofs.audio.read_audio.Statement.{statement}
 use Rattle.reader.proofs.audio.read_audio.Tie as tie
 
@@ -41,7 +39,7 @@ slice-relend-prefix-samples-of : tie.Need-slice-relend-prefix-samples-of
 slice-relend-prefix-samples-of c = search (audio-ends, needs)
 
 slice-aggregate-samples-of : tie.Need-slice-aggregate-samples-of
-slice-aggregate-samples-of c = search (audio-lent, needs)
+slice-aggregate-samples-of c = search (prefix-lent, audio-ends, needs)
 
 samples-of-requires : tie.Need-samples-of-requires
 samples-of-requires c κs = search needs
