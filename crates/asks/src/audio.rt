@@ -40,15 +40,16 @@ pub fn audio_number(system: u32, frame: &[u8], audio: u32, size: usize) -> u32
     if !whole {
         return 2;
     }
+    let number = check::checked(y, frame);
+    let own = sound_number(y, frame, audio);
     if !channel {
         return 3;
     }
     if !room {
         return 4;
     }
-    let number = check::checked(y, frame);
     if number != 0 {
         return number;
     }
-    sound_number(y, frame, audio)
+    own
 }

@@ -1,4 +1,4 @@
-// The number that each strict read answers: its refusals in their order, each condition known before the first number is given.
+// The number that each strict read answers: its refusals in their order. What can be asked is asked before the first number is given.
 mod audio;
 mod check;
 mod time;

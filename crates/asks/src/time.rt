@@ -39,8 +39,9 @@ pub fn time_number(system: u32, frame: &[u8]) -> u32
         return 2;
     }
     let number = check::checked(y, frame);
+    let own = clock_number(y, frame);
     if number != 0 {
         return number;
     }
-    clock_number(y, frame)
+    own
 }

@@ -30,12 +30,13 @@ pub fn macroblock_number(system: u32, frame: &[u8], number: u32) -> u32
     if !whole {
         return 2;
     }
+    let refusal = check::checked(y, frame);
+    let own = picture_number(y, frame);
     if !within {
         return 3;
     }
-    let refusal = check::checked(y, frame);
     if refusal != 0 {
         return refusal;
     }
-    picture_number(y, frame)
+    own
 }
