@@ -1,0 +1,179 @@
+// A try of the four strict reads, alone and on patched frames.
+ghost use Prim.Native.Nat.{_<_};
+use crate::tables;
+use crate::values;
+use rules::AudioAnswer;
+use rules::TimeAnswer;
+use tables::Patch;
+use values::some_bytes;
+
+// What is asked: a system, so many bytes of the frame, an audio channel, a macroblock, so many numbers for samples.
+pub struct Ask {
+    pub system: u32,
+    pub size: usize,
+    pub audio: u32,
+    pub block: u32,
+    pub room: usize,
+}
+
+pub fn asking(system: u32, size: usize, audio: u32, block: u32, room: usize) -> Ask {
+    Ask {
+        system: system,
+        size: size,
+        audio: audio,
+        block: block,
+        room: room,
+    }
+}
+
+pub fn size_of(system: u32) -> usize {
+    if system % 2 == 1 { 576000 } else { 480000 }
+}
+
+pub fn positions(system: u32) -> usize {
+    if system % 2 == 1 { 1944 } else { 1620 }
+}
+
+// Audio channel 6 and macroblock 2,700, with right lengths.
+pub fn plain(system: u32) -> Ask {
+    asking(system, size_of(system), 6, 2700, positions(system))
+}
+
+// An audio read into so many of the numbers, all of which hold the mark before.
+pub fn hear(system: u32, whole: &[u8], c: u32, numbers: &mut [i32], room: usize) -> AudioAnswer {
+    values::fill_marks(numbers);
+    if room <= numbers.len() {
+        return reader::read_audio(system, whole, c, &mut numbers[0..room]);
+    }
+    AudioAnswer {
+        number: 99,
+        count: 0,
+    }
+}
+
+fn print_four(bytes: [u8; 4]) {
+    lines::hex(bytes[0]);
+    lines::hex(bytes[1]);
+    lines::hex(bytes[2]);
+    lines::hex(bytes[3]);
+}
+
+fn print_clock(clock: TimeAnswer) {
+    let time = clock.time;
+    let group = clock.group;
+    print_four(time);
+    print_four(group);
+}
+
+// What is answered beside the numbers.
+fn print_answers(a: Ask, whole: &[u8], heard: AudioAnswer, numbers: &[i32]) {
+    let part = reader::macroblock(a.system, whole, a.block);
+    lines::field(heard.count);
+    lines::field(values::count_marks(numbers));
+    lines::field((part.len() % 65536) as u32);
+    print_clock(reader::read_time(a.system, whole));
+    lines::end();
+}
+
+pub fn line(name: &[u8], k: u32, a: Ask, frame: &[u8], numbers: &mut [i32]) {
+    let whole = some_bytes(frame, a.size);
+    let heard = hear(a.system, whole, a.audio, numbers, a.room);
+    let clock = reader::read_time(a.system, whole);
+    lines::start(name);
+    lines::field(k);
+    lines::field(reader::check_frame(a.system, whole));
+    lines::field(heard.number);
+    lines::field(reader::macroblock_number(a.system, whole, a.block));
+    lines::field(clock.number);
+    print_answers(a, whole, heard, numbers);
+}
+
+// ---- patches
+
+// How many sequences stand before the patch's.
+fn row(system: u32, p: Patch) -> u32 {
+    if system % 2 == 1 {
+        return 12 * (p.channel % 4) + p.sequence % 16;
+    }
+    10 * (p.channel % 4) + p.sequence % 16
+}
+
+// Where a patch stands in a frame of the system.
+pub fn offset(system: u32, p: Patch) -> usize
+    ensures { λ r. ⌜ r < 1000000 ⌝ }
+{
+    let start = (row(system, p) % 64 * 150 + p.place % 150) * 80;
+    (start + p.byte % 80) as usize
+}
+
+// Puts a byte, and answers what was there.
+fn put(frame: &mut [u8], at: usize, value: u8) -> u8 {
+    if at < frame.len() {
+        let old = frame[at];
+        frame[at] = value;
+        return old;
+    }
+    0
+}
+
+pub fn apply(system: u32, frame: &mut [u8], p: Patch) -> u8 {
+    put(frame, offset(system, p), p.value)
+}
+
+// One patch of a table, tried and taken back.
+fn single(name: &[u8], table: u32, k: u32, system: u32, frame: &mut [u8], numbers: &mut [i32]) {
+    let p = tables::patch_of(table, k);
+    let at = offset(system, p);
+    let old = put(frame, at, p.value);
+    line(name, k, plain(system), frame, numbers);
+    put(frame, at, old);
+}
+
+pub fn singles(
+    name: &[u8],
+    table: u32,
+    count: u32,
+    system: u32,
+    frame: &mut [u8],
+    numbers: &mut [i32],
+) {
+    let mut k: u32 = 0;
+    while k < count {
+        single(name, table, k, system, frame, numbers);
+        k += 1;
+    }
+}
+
+// A patch of a table with one of the next table, tried and taken back.
+fn double(name: &[u8], table: u32, k: u32, system: u32, frame: &mut [u8], numbers: &mut [i32]) {
+    let p = tables::patch_of(table, k);
+    let at = offset(system, p);
+    let old = put(frame, at, p.value);
+    single(name, table % 8 + 1, k, system, frame, numbers);
+    put(frame, at, old);
+}
+
+pub fn doubles(
+    name: &[u8],
+    table: u32,
+    count: u32,
+    system: u32,
+    frame: &mut [u8],
+    numbers: &mut [i32],
+) {
+    let mut k: u32 = 0;
+    while k < count {
+        double(name, table, k, system, frame, numbers);
+        k += 1;
+    }
+}
+
+// The patches of the first table, one after the other and each kept.
+pub fn together(frame: &mut [u8], numbers: &mut [i32]) {
+    let mut k: u32 = 0;
+    while k < 15 {
+        apply(0, frame, tables::patch_of(0, k));
+        line(b"together", k, plain(0), frame, numbers);
+        k += 1;
+    }
+}
