@@ -10,18 +10,27 @@ use values::some_bytes;
 // The fault list holds this before a call.
 const UNUSED: u32 = 777;
 
-fn print_survey(s: Survey) {
-    lines::field(s.number);
-    lines::field(s.total);
-    lines::field(s.kept);
-}
-
 // The first of a list, or all of it.
 fn some_of(list: &[u32], n: usize) -> &[u32] {
     if n <= list.len() {
         return &list[0..n];
     }
     list
+}
+
+// An answer, and so much of the fault list.
+fn print_found(s: Survey, list: &[u32], size: usize) {
+    lines::field(s.number);
+    lines::field(s.total);
+    lines::field(s.kept);
+    values::print_list(some_of(list, size));
+}
+
+// How many of the lent numbers hold their mark, and a checksum of the first.
+fn print_left(numbers: &[i32], room: usize) {
+    lines::field(values::count_number(numbers, values::MARK));
+    values::print_numbers(values::some_numbers(numbers, room));
+    lines::end();
 }
 
 // A salvage into so many numbers and so much of the fault list: its answer.
@@ -33,7 +42,6 @@ fn fill(
     list: &mut [u32],
     size: usize,
 ) -> Survey {
-    values::fill_marks(numbers);
     if room <= numbers.len() {
         if size <= list.len() {
             return rescue::salvage(system, whole, &mut numbers[0..room], &mut list[0..size]);
@@ -42,15 +50,14 @@ fn fill(
     faults::refused(99)
 }
 
-// Its answer, how many of the lent numbers hold their mark, a checksum of those that were lent, and the fault list.
+// Its answer and the fault list, then the marks and the checksum.
 fn into(system: u32, whole: &[u8], numbers: &mut [i32], room: usize, size: usize) {
     let mut list = [UNUSED; 32];
+    values::fill_marks(numbers);
+    let s = fill(system, whole, numbers, room, &mut list, size);
     lines::start(b"salvage");
-    print_survey(fill(system, whole, numbers, room, &mut list, size));
-    lines::field(values::count_marks(numbers));
-    values::print_numbers(values::some_numbers(numbers, room));
-    values::print_list(some_of(&list, size));
-    lines::end();
+    print_found(s, &list, size);
+    print_left(numbers, room);
 }
 
 fn all_positions(system: u32) -> usize {
@@ -62,28 +69,21 @@ pub fn salvage(system: u32, frame: &[u8], numbers: &mut [i32], size: usize) {
     into(system, whole, numbers, all_positions(system), size);
 }
 
-// ---- bad input, on a frame of system 0
-
-fn refused_frames(frame: &[u8], numbers: &mut [i32]) {
-    into(4, some_bytes(frame, 480000), numbers, 12960, 8);
-    into(0, some_bytes(frame, 479999), numbers, 12960, 8);
-    into(0, some_bytes(frame, 480001), numbers, 12960, 8);
-    into(1, some_bytes(frame, 480000), numbers, 15552, 8);
+// Bad input, on a frame of system 0.
+fn refusal(k: u32, frame: &[u8], numbers: &mut [i32]) {
+    let a = tables::salvage(k);
+    into(a.system, some_bytes(frame, a.size), numbers, a.room, 8);
 }
 
-fn refused_lists(frame: &[u8], numbers: &mut [i32]) {
-    into(0, some_bytes(frame, 480000), numbers, 12959, 8);
-    into(0, some_bytes(frame, 480000), numbers, 12961, 8);
-    into(0, some_bytes(frame, 479999), numbers, 12961, 8);
-    into(4, some_bytes(frame, 479999), numbers, 12961, 8);
+fn refused(frame: &[u8], numbers: &mut [i32]) {
+    let mut k: u32 = 0;
+    while k < 8 {
+        refusal(k, frame, numbers);
+        k += 1;
+    }
 }
 
-pub fn refused(frame: &[u8], numbers: &mut [i32]) {
-    refused_frames(frame, numbers);
-    refused_lists(frame, numbers);
-}
-
-// ---- a damaged frame of system 0 with 1,600 samples
+// ---- blocks of a frame of system 0 with 1,600 samples
 
 // Every byte of the patch's block becomes its value.
 fn fill_block(frame: &mut [u8], p: Patch) {
@@ -91,6 +91,15 @@ fn fill_block(frame: &mut [u8], p: Patch) {
     let end = start + 80;
     if end <= frame.len() {
         base::fill(&mut frame[start..end], p.value);
+    }
+}
+
+fn copy_byte(frame: &mut [u8], from: usize, to: usize) {
+    let n = frame.len();
+    if from < n {
+        if to < n {
+            frame[to] = frame[from];
+        }
     }
 }
 
@@ -105,22 +114,25 @@ fn copy_block(frame: &mut [u8], p: Patch, o: Patch) {
     }
 }
 
-fn copy_byte(frame: &mut [u8], from: usize, to: usize) {
-    let n = frame.len();
-    if from < n {
-        if to < n {
-            frame[to] = frame[from];
-        }
-    }
+// A video block of which section, DIF channel, Dseq and DBN are wrong; in the second, the section is reserved.
+fn wrong_block(k: u32, value: u8, frame: &mut [u8], numbers: &mut [i32]) {
+    fill_block(frame, at(3, 3, 23, 0, value));
+    tries::line(11, k, tries::plain(0), frame, numbers);
 }
 
-// The survey's answer and its list.
-fn survey(frame: &[u8], size: usize) {
-    let mut list = [UNUSED; 32];
-    lines::start(b"survey");
-    print_survey(seen(frame, &mut list, size));
-    values::print_list(some_of(&list, size));
-    lines::end();
+fn wrong_blocks(frame: &mut [u8], numbers: &mut [i32]) {
+    wrong_block(12, 0x00, frame, numbers);
+    wrong_block(11, 0xFF, frame, numbers);
+}
+
+// ---- three damaged blocks
+
+// A4 of sequence 7 of DIF channel 0, of audio channel 2, zeroed; A1 of sequence 2 of DIF channel 1 over A2 of sequence 3, of audio
+// channel 3; a wrong DBN of V88 of sequence 4 of DIF channel 2.
+fn damage(frame: &mut [u8]) {
+    fill_block(frame, at(0, 7, 70, 0, 0x00));
+    copy_block(frame, at(1, 2, 22, 0, 0), at(1, 3, 38, 0, 0));
+    tries::apply(0, frame, at(2, 4, 100, 2, 0x59));
 }
 
 fn seen(frame: &[u8], list: &mut [u32], size: usize) -> Survey {
@@ -130,15 +142,49 @@ fn seen(frame: &[u8], list: &mut [u32], size: usize) -> Survey {
     faults::refused(99)
 }
 
-// An audio channel of the salvaged: how many samples are lost, how many of those from the count on are 0, and a checksum.
+// The survey's answer and its list.
+fn survey(frame: &[u8], size: usize) {
+    let mut list = [UNUSED; 32];
+    let s = seen(frame, &mut list, size);
+    lines::start(b"survey");
+    print_found(s, &list, size);
+    lines::end();
+}
+
+// With a fault list for no record, for two and a half, and for eight.
+fn sizes(k: u32) -> usize {
+    match k {
+        0 => 0,
+        1 => 10,
+        _ => 32,
+    }
+}
+
+fn both(k: u32, frame: &[u8], numbers: &mut [i32]) {
+    survey(frame, sizes(k));
+    salvage(0, frame, numbers, sizes(k));
+}
+
+fn salvages(frame: &[u8], numbers: &mut [i32]) {
+    let mut k: u32 = 0;
+    while k < 3 {
+        both(k, frame, numbers);
+        k += 1;
+    }
+}
+
+// An audio channel of the salvaged: how many samples are lost, how many of those from the count on are 0, a checksum, the first.
 fn channel(numbers: &[i32], c: u32) {
-    let from = 1620 * ((c % 9) as usize);
-    let part = values::some_numbers(values::numbers_from(numbers, from), 1620);
+    let part = values::some_numbers(
+        values::numbers_from(numbers, 1620 * ((c % 8) as usize)),
+        1620,
+    );
     lines::start(b"channel");
-    lines::field(c % 9 + 1);
+    lines::field(c % 8 + 1);
     lines::field(values::count_number(part, 32768));
     lines::field(values::count_number(values::numbers_from(part, 1600), 0));
     values::print_numbers(part);
+    values::print_number(part, 0);
     lines::end();
 }
 
@@ -150,59 +196,41 @@ fn channels(numbers: &[i32]) {
     }
 }
 
-// The first sample of audio channel 7.
-fn first(numbers: &[i32]) {
-    lines::start(b"first");
-    values::print_number(numbers, 9720);
-    lines::end();
+fn damaged(frame: &mut [u8], numbers: &mut [i32]) {
+    damage(frame);
+    salvages(frame, numbers);
+    channels(numbers);
 }
 
-// A video block of which section, DIF channel, Dseq and DBN are wrong, and then its section is reserved.
-pub fn wrong_block(frame: &mut [u8], numbers: &mut [i32]) {
-    fill_block(frame, at(3, 3, 23, 0, 0x00));
-    tries::line(b"block", 12, tries::plain(0), frame, numbers);
-    fill_block(frame, at(3, 3, 23, 0, 0xFF));
-    tries::line(b"block", 11, tries::plain(0), frame, numbers);
-}
-
-// A4 of sequence 7 of DIF channel 0, of audio channel 2, zeroed; A1 of sequence 2 of DIF channel 1 over A2 of sequence 3, of audio
-// channel 3; a wrong DBN of V88 of sequence 4 of DIF channel 2.
-fn damage(frame: &mut [u8]) {
-    fill_block(frame, at(0, 7, 70, 0, 0x00));
-    copy_block(frame, at(1, 2, 22, 0, 0), at(1, 3, 38, 0, 0));
-    tries::apply(0, frame, at(2, 4, 100, 2, 0x59));
-}
-
-// The word of the first sample of audio channel 7, in a block that names its place.
+// Another word for the first sample of audio channel 7, in a block that names its place.
 fn reword(frame: &mut [u8]) {
     tries::apply(0, frame, at(3, 0, 6, 8, 0x12));
     tries::apply(0, frame, at(3, 0, 6, 9, 0x34));
 }
 
-fn surveys(frame: &[u8]) {
-    survey(frame, 0);
-    survey(frame, 10);
-    survey(frame, 32);
-}
-
-fn salvages(frame: &[u8], numbers: &mut [i32]) {
-    salvage(0, frame, numbers, 0);
-    salvage(0, frame, numbers, 10);
-    salvage(0, frame, numbers, 32);
-}
-
-pub fn damaged(frame: &mut [u8], numbers: &mut [i32]) {
-    damage(frame);
-    surveys(frame);
-    salvages(frame, numbers);
-    channels(numbers);
-    first(numbers);
-    reworded(frame, numbers);
-}
-
 fn reworded(frame: &mut [u8], numbers: &mut [i32]) {
     reword(frame);
     salvage(0, frame, numbers, 0);
-    first(numbers);
-    tries::line(b"damaged", 12, tries::plain(0), frame, numbers);
+    channel(numbers, 6);
+    tries::line(13, 12, tries::plain(0), frame, numbers);
+}
+
+// ---- rubbish, as a frame of every system
+
+fn rubbish(frame: &mut [u8], numbers: &mut [i32]) {
+    values::fill_rubbish(frame);
+    tries::asks(14, frame, numbers);
+    salvage(2, frame, numbers, 8);
+    salvage(3, frame, numbers, 32);
+}
+
+// Salvage and damage, by the number of the line's name.
+pub fn job(k: u32, frame: &mut [u8], numbers: &mut [i32]) {
+    match k {
+        4 => refused(frame, numbers),
+        11 => wrong_blocks(frame, numbers),
+        12 => damaged(frame, numbers),
+        13 => reworded(frame, numbers),
+        _ => rubbish(frame, numbers),
+    }
 }

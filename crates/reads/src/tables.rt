@@ -1,5 +1,98 @@
-// Patches: one byte of a frame, and what is put there. Tables 0 to 4 are for a frame of system 0 with 1,600 samples that is read for
-// audio channel 6, which lies in sequences 5 to 9 of DIF channel 2; table 5 is for one of system 1.
+// The tables: which frames are written, what is asked, and which bytes are changed.
+use crate::tries;
+use tries::Ask;
+
+// A frame: what the writer is given, and the tries from one number up to another.
+pub struct Case {
+    pub system: u32,
+    pub count: u32,
+    pub pc1: u8,
+    pub from: u32,
+    pub to: u32,
+}
+
+fn frame(system: u32, count: u32, pc1: u8, from: u32, to: u32) -> Case {
+    Case {
+        system: system,
+        count: count,
+        pc1: pc1,
+        from: from,
+        to: to,
+    }
+}
+
+pub fn case_of(k: u32) -> Case {
+    match k {
+        0 => frame(3, 1920, 0x64, 0, 1),
+        1 => frame(1, 1920, 0x64, 0, 3),
+        2 => frame(2, 1602, 0x29, 0, 1),
+        3 => frame(0, 1602, 0x29, 0, 1),
+        4 => frame(0, 1600, 0x29, 0, 1),
+        5 => frame(0, 1600, 0x29, 3, 11),
+        6 => frame(0, 1600, 0x29, 11, 12),
+        _ => frame(0, 1600, 0x29, 12, 15),
+    }
+}
+
+// ---- what is asked
+
+// Of a good frame of system 0: frames and lists of other lengths, systems, audio channels and macroblocks that are none.
+fn bad(k: u32) -> Ask {
+    match k {
+        0 => tries::asking(0, 479999, 6, 2700, 1620),
+        1 => tries::asking(0, 480001, 6, 2700, 1620),
+        2 => tries::asking(0, 0, 6, 2700, 1620),
+        3 => tries::asking(1, 480000, 6, 2700, 1944),
+        4 => tries::asking(2, 480000, 6, 2700, 1620),
+        5 => tries::asking(4, 480000, 6, 2700, 1620),
+        6 => tries::asking(4294967295, 480000, 6, 2700, 1620),
+        7 => tries::asking(0, 480000, 0, 2700, 1620),
+        8 => tries::asking(0, 480000, 9, 2700, 1620),
+        9 => tries::asking(0, 480000, 4294967295, 2700, 1620),
+        10 => tries::asking(0, 480000, 6, 5400, 1620),
+        11 => tries::asking(0, 480000, 6, 4294967295, 1620),
+        12 => tries::asking(0, 480000, 6, 2700, 1619),
+        13 => tries::asking(0, 480000, 6, 2700, 1621),
+        14 => tries::asking(0, 480000, 6, 2700, 0),
+        _ => tries::asking(0, 480000, 6, 2700, 1600),
+    }
+}
+
+// Of one with every number from 11 on: 4, then 3 and 4, then 2 to 4, then 1 to 4 besides.
+fn order(k: u32) -> Ask {
+    match k {
+        0 => tries::asking(0, 480000, 6, 2700, 1619),
+        1 => tries::asking(0, 480000, 9, 5400, 1619),
+        2 => tries::asking(0, 479999, 9, 5400, 1619),
+        _ => tries::asking(4, 479999, 9, 5400, 1619),
+    }
+}
+
+// Of salvage: a system, so many bytes of the frame, so many numbers.
+pub fn salvage(k: u32) -> Ask {
+    match k {
+        0 => tries::asking(4, 480000, 0, 0, 12960),
+        1 => tries::asking(0, 479999, 0, 0, 12960),
+        2 => tries::asking(0, 480001, 0, 0, 12960),
+        3 => tries::asking(1, 480000, 0, 0, 15552),
+        4 => tries::asking(0, 480000, 0, 0, 12959),
+        5 => tries::asking(0, 480000, 0, 0, 12961),
+        6 => tries::asking(0, 479999, 0, 0, 12961),
+        _ => tries::asking(4, 479999, 0, 0, 12961),
+    }
+}
+
+// By the number of the line's name; the others ask a frame as one of another system.
+pub fn ask_of(table: u32, k: u32) -> Ask {
+    match table {
+        3 => bad(k),
+        10 => order(k),
+        _ => tries::plain(k),
+    }
+}
+
+// ---- what is changed. For a frame of system 0 with 1,600 samples that is read for audio channel 6, which lies in sequences 5 to 9
+// of DIF channel 2; `fifty` is for one of system 1.
 
 // DIF channel, sequence and place of a block, the byte in it, and its new value.
 pub struct Patch {
@@ -133,13 +226,26 @@ fn fifty(k: u32) -> Patch {
     }
 }
 
+// By the number of the line's name; 18 has the second ones of pairs.
 pub fn patch_of(table: u32, k: u32) -> Patch {
     match table {
-        0 => ordered(k),
-        1 => strict(k),
-        2 => free(k),
-        3 => firsts(k),
-        4 => seconds(k),
-        _ => fifty(k),
+        1 => fifty(k),
+        6 => strict(k),
+        7 => free(k),
+        8 => firsts(k),
+        18 => seconds(k),
+        _ => ordered(k),
+    }
+}
+
+// How many lines there are of a name.
+pub fn lines_of(table: u32) -> u32 {
+    match table {
+        1 => 10,
+        3 => 16,
+        5 => 15,
+        6 => 21,
+        7 => 18,
+        _ => 4,
     }
 }

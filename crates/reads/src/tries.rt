@@ -69,23 +69,57 @@ fn print_clock(clock: TimeAnswer) {
 fn print_answers(a: Ask, whole: &[u8], heard: AudioAnswer, numbers: &[i32]) {
     let part = reader::macroblock(a.system, whole, a.block);
     lines::field(heard.count);
-    lines::field(values::count_marks(numbers));
+    lines::field(values::count_number(numbers, values::MARK));
     lines::field((part.len() % 65536) as u32);
     print_clock(reader::read_time(a.system, whole));
     lines::end();
 }
 
-pub fn line(name: &[u8], k: u32, a: Ask, frame: &[u8], numbers: &mut [i32]) {
+// The names of the lines.
+fn name(title: u32) {
+    match title {
+        1 => lines::start(b"fifty"),
+        3 => lines::start(b"bad"),
+        5 => lines::start(b"alone"),
+        6 => lines::start(b"strict"),
+        7 => lines::start(b"free"),
+        9 => lines::start(b"together"),
+        _ => name_too(title),
+    }
+}
+
+fn name_too(title: u32) {
+    match title {
+        0 => lines::start(b"good"),
+        2 => lines::start(b"other"),
+        8 => lines::start(b"pair"),
+        10 => lines::start(b"order"),
+        11 => lines::start(b"block"),
+        13 => lines::start(b"damaged"),
+        _ => lines::start(b"rubbish"),
+    }
+}
+
+pub fn line(title: u32, k: u32, a: Ask, frame: &[u8], numbers: &mut [i32]) {
     let whole = some_bytes(frame, a.size);
     let heard = hear(a.system, whole, a.audio, numbers, a.room);
     let clock = reader::read_time(a.system, whole);
-    lines::start(name);
+    name(title);
     lines::field(k);
     lines::field(reader::check_frame(a.system, whole));
     lines::field(heard.number);
     lines::field(reader::macroblock_number(a.system, whole, a.block));
     lines::field(clock.number);
     print_answers(a, whole, heard, numbers);
+}
+
+pub fn asks(title: u32, frame: &[u8], numbers: &mut [i32]) {
+    let count = tables::lines_of(title);
+    let mut k: u32 = 0;
+    while k < count {
+        line(title, k, tables::ask_of(title, k), frame, numbers);
+        k += 1;
+    }
 }
 
 // ---- patches
@@ -120,60 +154,59 @@ pub fn apply(system: u32, frame: &mut [u8], p: Patch) -> u8 {
     put(frame, offset(system, p), p.value)
 }
 
-// One patch of a table, tried and taken back.
-fn single(name: &[u8], table: u32, k: u32, system: u32, frame: &mut [u8], numbers: &mut [i32]) {
-    let p = tables::patch_of(table, k);
+// One patch, tried and taken back.
+fn single(title: u32, k: u32, p: Patch, system: u32, frame: &mut [u8], numbers: &mut [i32]) {
     let at = offset(system, p);
     let old = put(frame, at, p.value);
-    line(name, k, plain(system), frame, numbers);
+    line(title, k, plain(system), frame, numbers);
     put(frame, at, old);
 }
 
-pub fn singles(
-    name: &[u8],
-    table: u32,
-    count: u32,
-    system: u32,
-    frame: &mut [u8],
-    numbers: &mut [i32],
-) {
+fn singles(title: u32, system: u32, frame: &mut [u8], numbers: &mut [i32]) {
+    let count = tables::lines_of(title);
     let mut k: u32 = 0;
     while k < count {
-        single(name, table, k, system, frame, numbers);
+        single(title, k, tables::patch_of(title, k), system, frame, numbers);
         k += 1;
     }
 }
 
-// A patch of a table with one of the next table, tried and taken back.
-fn double(name: &[u8], table: u32, k: u32, system: u32, frame: &mut [u8], numbers: &mut [i32]) {
-    let p = tables::patch_of(table, k);
-    let at = offset(system, p);
+// Two patches at once, tried and taken back.
+fn double(k: u32, frame: &mut [u8], numbers: &mut [i32]) {
+    let p = tables::patch_of(8, k);
+    let at = offset(0, p);
     let old = put(frame, at, p.value);
-    single(name, table % 8 + 1, k, system, frame, numbers);
+    single(8, k, tables::patch_of(18, k), 0, frame, numbers);
     put(frame, at, old);
 }
 
-pub fn doubles(
-    name: &[u8],
-    table: u32,
-    count: u32,
-    system: u32,
-    frame: &mut [u8],
-    numbers: &mut [i32],
-) {
+fn doubles(frame: &mut [u8], numbers: &mut [i32]) {
     let mut k: u32 = 0;
-    while k < count {
-        double(name, table, k, system, frame, numbers);
+    while k < 7 {
+        double(k, frame, numbers);
         k += 1;
     }
 }
 
-// The patches of the first table, one after the other and each kept.
-pub fn together(frame: &mut [u8], numbers: &mut [i32]) {
+// One patch, which is kept.
+fn kept(k: u32, frame: &mut [u8], numbers: &mut [i32]) {
+    apply(0, frame, tables::patch_of(9, k));
+    line(9, k, plain(0), frame, numbers);
+}
+
+fn together(frame: &mut [u8], numbers: &mut [i32]) {
     let mut k: u32 = 0;
     while k < 15 {
-        apply(0, frame, tables::patch_of(0, k));
-        line(b"together", k, plain(0), frame, numbers);
+        kept(k, frame, numbers);
         k += 1;
+    }
+}
+
+// The tries of patches, by the number of the line's name.
+pub fn patched(title: u32, system: u32, frame: &mut [u8], numbers: &mut [i32]) {
+    match title {
+        8 => doubles(frame, numbers),
+        9 => together(frame, numbers),
+        _ => singles(title, system, frame, numbers),
     }
 }

@@ -171,10 +171,6 @@ pub fn count_number(numbers: &[i32], value: i32) -> u32 {
     n
 }
 
-pub fn count_marks(numbers: &[i32]) -> u32 {
-    count_number(numbers, MARK)
-}
-
 pub fn print_list(list: &[u32]) {
     let mut i = 0;
     while i < list.len() {

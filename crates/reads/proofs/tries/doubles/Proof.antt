@@ -7,10 +7,10 @@ use Rattle.reads.proofs.tries.doubles.Statement.{statement}
 use Rattle.reads.proofs.tries.doubles.Tie as tie
 
 abbrev Inv-loop : tie.InvT-loop
-Inv-loop name table count system frame₀ numbers₀ k₀ frame numbers k = (length frame ≡ length frame₀) × (length numbers ≡ length numbers₀)
+Inv-loop frame₀ numbers₀ k₀ frame numbers k = (length frame ≡ length frame₀) × (length numbers ≡ length numbers₀)
 
 abbrev μ-loop : tie.MeasureT-loop
-μ-loop name table count system frame₀ numbers₀ k₀ frame numbers k = count - k
+μ-loop frame₀ numbers₀ k₀ frame numbers k = 7 - k
 
 loop-holds : tie.Need-loop-holds Inv-loop μ-loop
 loop-holds c = search needs

@@ -7,13 +7,19 @@ use Rattle.reads.proofs.tries.singles.Statement.{statement}
 use Rattle.reads.proofs.tries.singles.Tie as tie
 
 abbrev Inv-loop : tie.InvT-loop
-Inv-loop name table count system frame₀ numbers₀ k₀ frame numbers k = (length frame ≡ length frame₀) × (length numbers ≡ length numbers₀)
+Inv-loop title system frame₀ numbers₀ count k₀ frame numbers k = (length frame ≡ length frame₀) × (length numbers ≡ length numbers₀)
 
 abbrev μ-loop : tie.MeasureT-loop
-μ-loop name table count system frame₀ numbers₀ k₀ frame numbers k = count - k
+μ-loop title system frame₀ numbers₀ count k₀ frame numbers k = count - k
+
+lines-of-requires : tie.Need-lines-of-requires Inv-loop μ-loop
+lines-of-requires c κs = search needs
 
 loop-holds : tie.Need-loop-holds Inv-loop μ-loop
 loop-holds c = search needs
+
+patch-of-requires : tie.Need-patch-of-requires Inv-loop μ-loop
+patch-of-requires c κs = search needs
 
 single-requires : tie.Need-single-requires Inv-loop μ-loop
 single-requires c κs = search needs
@@ -42,7 +48,9 @@ singles-spec =
     (tie.spec
     Inv-loop
     μ-loop
+    lines-of-requires
     loop-holds
+    patch-of-requires
     single-requires
     add-k
     loop-less

@@ -7,28 +7,16 @@ use Rattle.reads.proofs.tries.together.Statement.{statement}
 use Rattle.reads.proofs.tries.together.Tie as tie
 
 abbrev Inv-loop : tie.InvT-loop
-Inv-loop frame₀ numbers₀ k₀ t4 frame numbers k = (length frame ≡ length frame₀) × (length numbers ≡ length numbers₀)
+Inv-loop frame₀ numbers₀ k₀ frame numbers k = (length frame ≡ length frame₀) × (length numbers ≡ length numbers₀)
 
 abbrev μ-loop : tie.MeasureT-loop
-μ-loop frame₀ numbers₀ k₀ t4 frame numbers k = 15 - k
+μ-loop frame₀ numbers₀ k₀ frame numbers k = 15 - k
 
 loop-holds : tie.Need-loop-holds Inv-loop μ-loop
 loop-holds c = search needs
 
-patch-of-requires : tie.Need-patch-of-requires Inv-loop μ-loop
-patch-of-requires c κs = search needs
-
-apply-requires : tie.Need-apply-requires Inv-loop μ-loop
-apply-requires c κs = search needs
-
-slice-aggregate-line : tie.Need-slice-aggregate-line Inv-loop μ-loop
-slice-aggregate-line c = search needs
-
-plain-requires : tie.Need-plain-requires Inv-loop μ-loop
-plain-requires c κs = search needs
-
-line-requires : tie.Need-line-requires Inv-loop μ-loop
-line-requires c κs = search needs
+kept-requires : tie.Need-kept-requires Inv-loop μ-loop
+kept-requires c κs = search needs
 
 add-k : tie.Need-add-k Inv-loop μ-loop
 add-k c = search needs
@@ -55,11 +43,7 @@ together-spec =
     Inv-loop
     μ-loop
     loop-holds
-    patch-of-requires
-    apply-requires
-    slice-aggregate-line
-    plain-requires
-    line-requires
+    kept-requires
     add-k
     loop-less
     loop-again

@@ -1,25 +1,25 @@
--- `reads::bad` is safe and ends. Assumes nothing.
+-- `reads::tries::asks` is safe and ends. Assumes nothing.
 use mathlib.Core.Path.{_≡_}
 use Prim.Native.Nat.{_-_}
 use lib.ListN.{length}
 use borrow.Author.Needs.{needs}
-use Rattle.reads.proofs.bad.Statement.{statement}
-use Rattle.reads.proofs.bad.Tie as tie
+use Rattle.reads.proofs.tries.asks.Statement.{statement}
+use Rattle.reads.proofs.tries.asks.Tie as tie
 
 abbrev Inv-loop : tie.InvT-loop
-Inv-loop frame numbers₀ k₀ t4 numbers k = length numbers ≡ length numbers₀
+Inv-loop title frame numbers₀ count k₀ numbers k = length numbers ≡ length numbers₀
 
 abbrev μ-loop : tie.MeasureT-loop
-μ-loop frame numbers₀ k₀ t4 numbers k = 16 - k
+μ-loop title frame numbers₀ count k₀ numbers k = count - k
+
+lines-of-requires : tie.Need-lines-of-requires Inv-loop μ-loop
+lines-of-requires c κs = search needs
 
 loop-holds : tie.Need-loop-holds Inv-loop μ-loop
 loop-holds c = search needs
 
-slice-aggregate-line : tie.Need-slice-aggregate-line Inv-loop μ-loop
-slice-aggregate-line c = search needs
-
-asked-requires : tie.Need-asked-requires Inv-loop μ-loop
-asked-requires c κs = search needs
+ask-of-requires : tie.Need-ask-of-requires Inv-loop μ-loop
+ask-of-requires c κs = search needs
 
 line-requires : tie.Need-line-requires Inv-loop μ-loop
 line-requires c κs = search needs
@@ -39,15 +39,15 @@ same-length c = search needs
 returns : tie.Need-returns Inv-loop μ-loop
 returns c = search needs
 
-pub bad-spec : {M : Type 1} → statement M
-bad-spec =
+pub asks-spec : {M : Type 1} → statement M
+asks-spec =
     tie.close
     (tie.spec
     Inv-loop
     μ-loop
+    lines-of-requires
     loop-holds
-    slice-aggregate-line
-    asked-requires
+    ask-of-requires
     line-requires
     add-k
     loop-less

@@ -1,10 +1,10 @@
--- `reads::channels` is safe and ends. Assumes nothing.
+-- `reads::good::channels` is safe and ends. Assumes nothing.
 use mathlib.Core.Path.{_≡_}
 use Prim.Native.Nat.{_-_}
 use lib.ListN.{length}
 use borrow.Author.Needs.{needs}
-use Rattle.reads.proofs.channels.Statement.{statement}
-use Rattle.reads.proofs.channels.Tie as tie
+use Rattle.reads.proofs.good.channels.Statement.{statement}
+use Rattle.reads.proofs.good.channels.Tie as tie
 
 abbrev Inv-loop : tie.InvT-loop
 Inv-loop system frame numbers₀ c₀ numbers c = length numbers ≡ length numbers₀
