@@ -197,13 +197,17 @@ fn views(frame: &[u8]) {
     view(0, frame, 2, 0, 150);
 }
 
+fn run(frame: &[u8; 480000]) {
+    surveys(frame);
+    sequences(frame);
+    views(frame);
+}
+
 fn main() {
     let frame = [0u8; 480000];
     systems();
     ids();
     written(Section::Header, 0, 0, 0);
     written(Section::Video, 3, 9, 134);
-    surveys(&frame);
-    sequences(&frame);
-    views(&frame);
+    run(&frame);
 }

@@ -473,11 +473,15 @@ fn samples(numbers: &mut [i32], macroblocks: &[u8], frame: &mut [u8]) {
     last_order(numbers, macroblocks, frame);
 }
 
-fn run(numbers: &mut [i32], macroblocks: &mut [u8], frame: &mut [u8]) {
+fn all(numbers: &mut [i32], macroblocks: &mut [u8], frame: &mut [u8]) {
     fill_macroblocks(macroblocks);
     frames_1080(numbers, macroblocks, frame);
     frames_720(numbers, macroblocks, frame);
     bad(numbers, macroblocks, frame);
+}
+
+fn run(numbers: &mut [i32; 15360], macroblocks: &mut [u8; 467775], frame: &mut [u8; 576000]) {
+    all(numbers, macroblocks, frame);
 }
 
 fn main() {
