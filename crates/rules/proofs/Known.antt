@@ -10,6 +10,6 @@ use Rattle.rules.specs.Picture.{tenCarries, elevenCarries, within}
 use Rattle.rules.specs.Faults.{misnamed, faultOf, faultAt}
 use Rattle.rules.specs.Known.{same, is, agrees, all, table}
 
-pub known-places : T (all table)
+pub table-agrees : T (all table)
 unfolding table all agrees same is halfOf within tenCarries elevenCarries places entryAt run tab idAt idBytes idAnswer namedBy sectionOf channelOf faultAt faultOf misnamed firstOf pick
-known-places = tt
+table-agrees = tt

@@ -24,3 +24,8 @@ pub mod Calls
 pub mod Salvage
 pub mod Write
 pub mod Known
+pub mod Answering
+pub mod ReadingBack
+pub mod Salvaging
+pub mod Worthless
+pub mod Demands

@@ -25,9 +25,9 @@ use Rattle.rules.specs.Rows.{meets, rowsAgree, table22, table23, table24
 -- ---- carriedIn: the printed rows
 
 -- "a row they print decides"
-pub printed-rows : T (rowsAgree printedRows)
+pub rows-agree : T (rowsAgree printedRows)
 unfolding printedRows table22 table23 table24 rowsAgree meets within tenCarries elevenCarries pick
-printed-rows = tt
+rows-agree = tt
 
 -- ---- carriedIn, carrierOf: the tests, of a rule f of what a slot carries and a rule g of where a macroblock lies
 

@@ -10,7 +10,7 @@ use Rattle.base.proofs.Cases.{by-eq}
 use Rattle.rules.specs.declared.System.{System}
 use Rattle.rules.specs.declared.System.the-variants.{I60, I50, P60, P50}
 use Rattle.rules.specs.declared.SystemNumber.the-variants.{Known, NoSystem}
-use Rattle.rules.specs.Systems.{sequencesOf, halfOf, positionsOf, countsOf, isCount, rateOf, stypeOf, systemOf, numberOf}
+use Rattle.rules.specs.Systems.{sequencesOf, halfOf, positionsOf, countsOf, isCount, macroblocksOf, rateOf, stypeOf, systemOf, numberOf}
 
 -- ---- systemOf
 
@@ -108,6 +108,9 @@ counts-below I50 = omega arith
 counts-below P60 = omega arith
 counts-below P50 = omega arith
 
+pub positions-some : (y : System) → 0 < positionsOf y
+positions-some y = omega (arith, counts-below y .0)
+
 -- one of a system's own counts is its fewer or its more
 pub count-cases : (y : System) (k : ℕ) → isCount y k ≡ true → (k ≡ countsOf y .fewer) ⊎ (k ≡ countsOf y .more)
 count-cases y k e =
@@ -133,3 +136,11 @@ counts-turns P50 = (omega arith, omega arith)
 
 pub count-turns : (y : System) (k : ℕ) → isCount y k ≡ true → 9 * halfOf y * 35 ≤ k
 count-turns y k e = ⊎-elim (λ f. omega (arith, counts-turns y)) (λ m. omega (arith, counts-turns y)) (count-cases y k e)
+
+-- ---- macroblocksOf
+
+pub macroblocks-some : (y : System) → 0 < macroblocksOf y
+macroblocks-some I60 = omega arith
+macroblocks-some I50 = omega arith
+macroblocks-some P60 = omega arith
+macroblocks-some P50 = omega arith

@@ -1,4 +1,4 @@
--- In the paper's order: the format, then a file a call, then the known places.
+-- In the paper's order: the format, then a file a call, then the known places and the demands.
 pub mod Systems
 pub mod Places
 pub mod Ids
@@ -30,3 +30,4 @@ pub mod Written
 pub mod Write
 pub mod Rows
 pub mod Known
+pub mod Statements

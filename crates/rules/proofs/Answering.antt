@@ -1,0 +1,169 @@
+-- The workshop of the first demand: each call has one outcome, the number that is due, and a refusal that writes nothing. Assumes nothing.
+use mathlib.Core.Path.{_≡_, refl, sym, ap, _∙_}
+use mathlib.Core.Bool.{true, false}
+use mathlib.Core.List.{List, []}
+use Prim.Native.Nat.{ℕ, _<_, _≤_}
+use native.Mathlib.Omega.{arith}
+use lib.IntN.{ℤ}
+use lib.ListN.{length}
+use borrow.Author.Tests.{eq-eqb, ne-eqb, lt-leb, le-leb}
+use Rattle.base.specs.Calls.{firstOf, ExactlyOne}
+use Rattle.base.specs.Pick.{pick}
+use Rattle.base.proofs.Cases.{by-eq, by-lt}
+use Rattle.base.proofs.Picks.{pick-true, pick-false}
+use Rattle.rules.specs.declared.SystemNumber.{SystemNumber}
+use Rattle.rules.specs.declared.SystemNumber.the-variants.{Known, NoSystem}
+use Rattle.rules.specs.declared.Place.{Place}
+use Rattle.rules.specs.declared.IdAnswer.{IdAnswer}
+use Rattle.rules.specs.declared.IdAnswer.the-variants.{Named, Reserved, WrongLength}
+use Rattle.rules.specs.declared.Fault.{Fault}
+use Rattle.rules.specs.declared.Survey.{Survey}
+use Rattle.rules.specs.declared.AudioAnswer.{AudioAnswer}
+use Rattle.rules.specs.declared.TimeAnswer.{TimeAnswer}
+use Rattle.rules.specs.Systems.{systemOf}
+use Rattle.rules.specs.Ids.{sectionBits, idAnswer, idRefusal, idValues, IdValues}
+use Rattle.rules.specs.ReadId.{idNumber, IdRead}
+use Rattle.rules.specs.Survey.{refusal, surveyAnswer, Surveyed}
+use Rattle.rules.specs.View.{viewNumber, ViewNumbered, Viewed}
+use Rattle.rules.specs.Check.{checkNumber, Checked}
+use Rattle.rules.specs.Audio.{audioNumber, audioAnswer, AudioRead}
+use Rattle.rules.specs.Macroblock.{macroblockNumber, MacroblockNumbered, MacroblockRead}
+use Rattle.rules.specs.Time.{timeNumber, timeRefused, timeAnswer, timeFound, TimeRead}
+use Rattle.rules.specs.Salvage.{salvageNumber, Salvaged}
+use Rattle.rules.specs.Written.{Lent}
+use Rattle.rules.specs.Write.{Wrote}
+use Rattle.rules.specs.Statements.{Answers, EveryCall}
+use Rattle.rules.proofs.Calls.{read-id-one, read-id-says-4, read-id-says-11, read-id-says-0, survey-frame-one, survey-sequence-one, survey-refused, survey-taken, view-number-one, view-one, view-refused}
+use Rattle.rules.proofs.Check.{check-frame-one}
+use Rattle.rules.proofs.Audio.{read-audio-one, audio-refused}
+use Rattle.rules.proofs.Macroblock.{macroblock-number-one, macroblock-one, macroblock-refused}
+use Rattle.rules.proofs.Time.{time-1, read-time-one, time-refused}
+use Rattle.rules.proofs.Salvage.{salvage-one, salvage-refused}
+use Rattle.rules.proofs.Write.{write-frame-one, write-refused}
+
+-- ---- two calls on one input: a number, and a part
+
+pair-one : {A B : Type 0} {P : A → Type 0} {Q : B → Type 0} → ExactlyOne A P → ExactlyOne B Q → ExactlyOne (A × B) (λ o. P (o .0) × Q (o .1))
+pair-one p q = record {
+  outcome = (p .outcome, q .outcome);
+  meets = (p .meets, q .meets);
+  only = λ o m i. (p .only (o .0) (m .0) i, q .only (o .1) (m .1) i);
+}
+
+-- ---- read_id
+
+id-says : (id : List ℕ) → ((idValues (idAnswer id) .number ≡ idNumber id) × ((idValues (idAnswer id) .number ≡ 0 → ⊥) → idValues (idAnswer id) ≡ idRefusal (idValues (idAnswer id) .number)))
+unfolding idNumber firstOf pick
+id-says id =
+    by-eq (length id) 3
+    (λ three.
+    by-lt (sectionBits id) 5
+    (λ named.
+    let e = ap (λ (v : IdValues). v .number) (read-id-says-0 id three named) in
+    (e ∙ rw (eq-eqb _ _ three, lt-leb _ _ named) refl, λ d. absurd (d e)))
+    (λ reserved.
+    let e = read-id-says-11 id three reserved in
+    (ap (λ (v : IdValues). v .number) e ∙ rw (eq-eqb _ _ three, le-leb _ _ reserved) refl, λ d. rw e refl)))
+    (λ other.
+    let e = read-id-says-4 id other in
+    (ap (λ (v : IdValues). v .number) e ∙ rw (ne-eqb _ _ other) refl, λ d. rw e refl))
+
+-- ---- survey, survey_sequence, and salvage beside its samples
+
+module _ {number : ℕ} {fs : List Fault} {list list′ : List ℕ} {r : Survey} (s : Surveyed number fs list r list′) where
+  survey-number : r .number ≡ number
+  survey-number =
+      by-eq number 0
+      (λ z. ap (λ (x : Survey). x .number) (survey-taken s z .0) ∙ sym z)
+      (λ d. ap (λ (x : Survey). x .number) (survey-refused s d .0))
+
+  survey-quiet : (r .number ≡ 0 → ⊥) → (r ≡ refusal (r .number)) × (list′ ≡ list)
+  survey-quiet d = let v = survey-refused s (λ z. d (survey-number ∙ z)) in (v .0 ∙ ap refusal (sym survey-number), v .1)
+
+-- ---- read_audio
+
+module _ (k : ℕ) (frame : List ℕ) (c : ℕ) (samples : List ℤ) {r : AudioAnswer} {samples′ : List ℤ} (a : AudioRead k frame c samples r samples′) where
+  audio-number : r .number ≡ audioNumber k frame c (length samples)
+  unfolding audioAnswer
+  audio-number =
+      by-eq (audioNumber k frame c (length samples)) 0
+      (λ z. ap (λ (x : AudioAnswer). x .number) (a .answer ∙ pick-true _ _ (eq-eqb _ 0 z)) ∙ sym z)
+      (λ d. ap (λ (x : AudioAnswer). x .number) (audio-refused k frame c samples a d .0))
+
+  audio-quiet : (r .number ≡ 0 → ⊥) → (r ≡ record { number = r .number; count = 0 }) × (samples′ ≡ samples)
+  audio-quiet d =
+      let v = audio-refused k frame c samples a (λ z. d (audio-number ∙ z)) in
+      (v .0 ∙ ap (λ (n : ℕ). record { number = n; count = 0 }) (sym audio-number), v .1)
+
+-- ---- read_time
+
+module _ (k : ℕ) (frame : List ℕ) where
+  found-number : (s : SystemNumber) → systemOf k ≡ s → timeNumber k frame ≡ 0 → timeFound s frame .number ≡ 0
+  unfolding timeFound
+  found-number (Known y) e z = refl
+  found-number NoSystem e z = absurd (omega (arith, z, time-1 k frame e))
+
+  time-number : {r : TimeAnswer} → TimeRead k frame r → r .number ≡ timeNumber k frame
+  unfolding timeAnswer
+  time-number a =
+      by-eq (timeNumber k frame) 0
+      (λ z. ap (λ (x : TimeAnswer). x .number) (a .answer ∙ pick-true _ _ (eq-eqb _ 0 z)) ∙ found-number (systemOf k) refl z ∙ sym z)
+      (λ d. ap (λ (x : TimeAnswer). x .number) (time-refused k frame a d))
+
+-- ---- all
+
+pub every-call : EveryCall
+every-call = record {
+  read-id = λ id. record {
+    one = read-id-one id;
+    numbered = λ o m. ap (λ (a : IdAnswer). idValues a .number) (m .answer) ∙ id-says id .0;
+    refused = λ o m d. rw (m .answer) (id-says id .1 (λ z. d (ap (λ (a : IdAnswer). idValues a .number) (m .answer) ∙ z)));
+  };
+  survey = λ k frame list. record {
+    one = survey-frame-one k frame list;
+    numbered = λ o m. survey-number m;
+    refused = λ o m d i. (survey-quiet m d .0 i, survey-quiet m d .1 i);
+  };
+  survey-sequence = λ k h q sequence list. record {
+    one = survey-sequence-one k h q sequence list;
+    numbered = λ o m. survey-number m;
+    refused = λ o m d i. (survey-quiet m d .0 i, survey-quiet m d .1 i);
+  };
+  view = λ k frame h q p. record {
+    one = pair-one (view-number-one k frame h q p) (view-one k frame h q p);
+    numbered = λ o m. m .0 .answer;
+    refused = λ o m d. m .1 .answer ∙ view-refused k frame h q p (λ z. d (m .0 .answer ∙ z));
+  };
+  check-frame = λ k frame. record {
+    one = check-frame-one k frame;
+    numbered = λ o m. m .answer;
+    refused = λ o m d. m .answer;
+  };
+  read-audio = λ k frame c samples. record {
+    one = read-audio-one k frame c samples;
+    numbered = λ o m. audio-number k frame c samples m;
+    refused = λ o m d i. (audio-quiet k frame c samples m d .0 i, audio-quiet k frame c samples m d .1 i);
+  };
+  macroblock = λ k frame b. record {
+    one = pair-one (macroblock-number-one k frame b) (macroblock-one k frame b);
+    numbered = λ o m. m .0 .answer;
+    refused = λ o m d. m .1 .answer ∙ macroblock-refused k frame b (λ z. d (m .0 .answer ∙ z));
+  };
+  read-time = λ k frame. record {
+    one = read-time-one k frame;
+    numbered = λ o m. time-number k frame m;
+    refused = λ o m d. time-refused k frame m (λ z. d (time-number k frame m ∙ z)) ∙ ap timeRefused (sym (time-number k frame m));
+  };
+  salvage = λ k frame samples list. record {
+    one = salvage-one k frame samples list;
+    numbered = λ o m. survey-number (m .survey);
+    refused = λ o m d i.
+        let v = survey-quiet (m .survey) d in
+        (v .0 i, salvage-refused m (λ z. d (survey-number (m .survey) ∙ z)) .1 i, v .1 i);
+  };
+  write-frame = λ k l frame. record {
+    one = write-frame-one k l frame;
+    numbered = λ o m. m .answer;
+    refused = λ o m d. write-refused m d;
+  };
+}

@@ -1,0 +1,172 @@
+-- The workshop of the second demand: what the writer takes, how it is laid out, and that it reads back. Assumes nothing.
+use mathlib.Core.Path.{_≡_, refl, sym, ap, _∙_, subst}
+use mathlib.Core.Bool.{true}
+use mathlib.Core.List.{List, [], _∷_, _++_}
+use Prim.Native.Nat.{ℕ, _+_, _-_, _*_, _≤_, _<_}
+use native.Mathlib.Omega.{arith}
+use lib.Dec.{ltb}
+use borrow.Author.Tests.{eq-eqb, lt-ltb, ltb-true}
+use lib.IntN.{ℤ, pos}
+use lib.ListN.{length, getD, take, drop, length-append, length-drop}
+use lib.Seq.{ext-getD, getD-drop, drop-at, take-all}
+use Rattle.base.specs.Run.{run, tab}
+use Rattle.base.proofs.Cases.{by-lt}
+use Rattle.base.proofs.Picks.{both-held}
+use Rattle.base.proofs.Runs.{length-tab, tab-part}
+use Rattle.rules.specs.declared.System.{System}
+use Rattle.rules.specs.declared.SystemNumber.the-variants.{Known}
+use Rattle.rules.specs.declared.AudioAnswer.{AudioAnswer}
+use Rattle.rules.specs.declared.Slot.{Slot}
+use Rattle.rules.specs.declared.Carried.the-variants.{Macroblock}
+use Rattle.rules.specs.Systems.{sequencesOf, positionsOf, macroblocksOf, systemOf}
+use Rattle.rules.specs.TimeCode.{timePack, groupPack}
+use Rattle.rules.specs.Samples.{numberOf, sampleOf, backOf}
+use Rattle.rules.specs.Picture.{carriedIn}
+use Rattle.rules.specs.Check.{checkNumber}
+use Rattle.rules.specs.Reading.{readSample}
+use Rattle.rules.specs.Audio.{isAudio, countFor, audioNumber}
+use Rattle.rules.specs.Macroblock.{macroblockNumber, macroblockPart}
+use Rattle.rules.specs.Time.{fourBytes, timeNumber}
+use Rattle.rules.specs.Written.{Lent, given, storedWord, writtenFrame}
+use Rattle.rules.specs.Write.{Wrote, Takes}
+use Rattle.rules.specs.Statements.{LaidOut, Strict, StrictlyRead, ReadsBack, WritesBack}
+use Rattle.rules.proofs.Systems.{count-below}
+use Rattle.rules.proofs.Picture.{carrier-one, carried-lies}
+use Rattle.rules.proofs.Audio.{audio-rows, audio-taken, audio-sample}
+use Rattle.rules.proofs.Macroblock.{macroblock-rows, macroblock-carried}
+use Rattle.rules.proofs.Time.{time-rows, time-taken}
+use Rattle.rules.proofs.Written.{frame-length, frame-block, frame-high, frame-low, stored-given}
+use Rattle.rules.proofs.Back.{rows-written, check-written, count-written, audio-written, sample-written, picture-written, slot-written, group-written, clock-written, settled-written}
+use Rattle.rules.proofs.Write.{taken-takes, write-taken}
+
+-- ---- isAudio: 1 to 8
+
+pub audio-above : (c : ℕ) → isAudio c ≡ true → 0 < c
+audio-above c e = ltb-true 0 c (both-held (ltb 0 c) (ltb c 9) e .0)
+
+pub audio-below : (c : ℕ) → isAudio c ≡ true → c < 9
+audio-below c e = ltb-true c 9 (both-held (ltb 0 c) (ltb c 9) e .1)
+
+-- ---- fourBytes: those that a pack was made of
+
+four-again : (bytes : List ℕ) → length bytes ≡ 4 → getD bytes 0 0 ∷ getD bytes 1 0 ∷ getD bytes 2 0 ∷ getD bytes 3 0 ∷ [] ≡ bytes
+unfolding tab run
+four-again bytes e = tab-part 0 bytes 0 4 (omega (arith, e)) ∙ take-all 4 bytes (omega (arith, e))
+
+-- ---- the frame of what is taken
+
+module _ (y : System) (l : Lent) (size : ℕ) (t : Takes y l size) where
+  -- the 77 bytes of a macroblock were lent
+  macroblock-lent : (b : ℕ) → b < macroblocksOf y → 77 * b + 77 ≤ length (l .macroblocks)
+  macroblock-lent b h = omega (arith, t .pictures)
+
+  pub laid-out : LaidOut y l (writtenFrame y l)
+  laid-out = record {
+    block = λ h q p hh hq hp. frame-block y l h q p hh hq hp;
+    high = λ c i e hi. frame-high y l c i (audio-above c e) (audio-below c e) hi;
+    low = λ c i e hi. frame-low y l c i (audio-above c e) (audio-below c e) hi;
+    macroblock = λ s b e. slot-written y l s b e (macroblock-lent b (carried-lies y s b e .0));
+  }
+
+  module _ (k : ℕ) (known : systemOf k ≡ Known y) where
+    -- ---- read_audio
+
+    module _ (c : ℕ) (channel : isAudio c ≡ true) (samples : List ℤ) (room : length samples ≡ positionsOf y) where
+      audio-zero-written : audioNumber k (writtenFrame y l) c (length samples) ≡ 0
+      audio-zero-written =
+          sym (audio-rows k (writtenFrame y l) c (length samples) y known (eq-eqb _ _ (frame-length y l)) channel (eq-eqb _ _ room) (rows-written y l))
+          ∙ audio-written y l c (audio-above c channel) (audio-below c channel) (t .counts)
+
+      count-is : countFor y (writtenFrame y l) c ≡ l .count
+      count-is = count-written y l c (audio-above c channel) (audio-below c channel) (t .counts)
+
+      sample-is : (i : ℕ) → i < l .count → numberOf (readSample y (writtenFrame y l) c i) ≡ backOf (given l c i)
+      sample-is i h =
+          ap numberOf (sample-written y l c (audio-above c channel) (audio-below c channel) i (omega (arith, h, count-below y (l .count) (t .counts))))
+          ∙ stored-given l c i (audio-above c channel) (audio-below c channel) (t .sounds) (t .levels) h
+
+    -- ---- macroblock
+
+    module _ (b : ℕ) (within : b < macroblocksOf y) where
+      macroblock-zero-written : macroblockNumber k (writtenFrame y l) b ≡ 0
+      macroblock-zero-written =
+          sym (macroblock-rows k (writtenFrame y l) b y known (eq-eqb _ _ (frame-length y l)) (lt-ltb _ _ within) (rows-written y l)) ∙ picture-written y l
+
+      part-is : macroblockPart k (writtenFrame y l) b ≡ take 77 (drop (77 * b) (l .macroblocks))
+      part-is =
+          let one = carrier-one y b within in
+          macroblock-carried k (writtenFrame y l) b y known macroblock-zero-written (one .outcome) (one .meets)
+          ∙ slot-written y l (one .outcome) b (one .meets) (macroblock-lent b within)
+
+    -- ---- read_time
+
+    time-zero-written : timeNumber k (writtenFrame y l) ≡ 0
+    time-zero-written = sym (time-rows k (writtenFrame y l) y known (eq-eqb _ _ (frame-length y l)) (rows-written y l)) ∙ clock-written y l (t .clock)
+
+    -- ---- all
+
+    pub reads-back : (c : ℕ) (samples : List ℤ) (b : ℕ) (o : Strict) → isAudio c ≡ true → length samples ≡ positionsOf y → b < macroblocksOf y
+        → StrictlyRead k (writtenFrame y l) c samples b o → ReadsBack l c samples b o
+    reads-back c samples b o channel room within read =
+        let zero = audio-zero-written c channel samples room in
+        let count = count-is c channel samples room in
+        let audio = audio-taken k (writtenFrame y l) c samples y known zero (read .audio) in
+        let sample : ℕ → ℤ = λ i. numberOf (readSample y (writtenFrame y l) c i) in
+        let heard : List ℤ = tab sample (l .count) in
+        let many = length-tab sample (l .count) in
+        let left : o .samples ≡ heard ++ drop (l .count) samples = audio .1 ∙ rw count refl in
+        record {
+          check = read .check .answer ∙ check-written y l k known;
+          audio = audio .0 ∙ rw count refl;
+          sample = λ i h.
+              audio-sample k (writtenFrame y l) c samples y known zero (read .audio) i (omega (arith, h, count, ap (λ (a : AudioAnswer). a .count) (audio .0)))
+              ∙ sample-is c channel samples room i h;
+          rest = ap (drop (l .count)) left ∙ drop-at heard (drop (l .count) samples) (l .count) many;
+          size = ap length left ∙ length-append heard (drop (l .count) samples) ∙ omega (arith, many, length-drop (l .count) samples, room, count-below y (l .count) (t .counts));
+          number = read .number .answer ∙ macroblock-zero-written b within;
+          part = read .part .answer ∙ part-is b within;
+          time = time-taken k (writtenFrame y l) y known time-zero-written (read .time)
+              ∙ rw (settled-written y l (t .clock), group-written y l, four-again (l .timeCode) (t .times), four-again (l .binaryGroup) (t .groups)) refl;
+        }
+
+-- ---- the writer
+
+pub writes-back : {k : ℕ} {y : System} {l : Lent} {frame : List ℕ} {r : ℕ} {f : List ℕ} → systemOf k ≡ Known y → Wrote k l frame r f → WritesBack k y l frame r f
+writes-back {k} {y} {l} {frame} {r} {f} known w =
+    let takes : r ≡ 0 → Takes y l (length frame) = λ z. taken-takes k l (length frame) y known (sym (w .answer) ∙ z) in
+    let is : r ≡ 0 → writtenFrame y l ≡ f = λ z. sym (write-taken k y known l frame (takes z) w .1) in
+    record {
+      takes = λ t. write-taken k y known l frame t w .0;
+      nothing-else = takes;
+      laid-out = λ z. subst (LaidOut y l) (is z) (laid-out y l (length frame) (takes z));
+      reads-back = λ z c samples b o channel room within.
+          subst (λ (x : List ℕ). StrictlyRead k x c samples b o → ReadsBack l c samples b o) (is z)
+          (reads-back y l (length frame) (takes z) k known c samples b o channel room within);
+    }
+
+-- ---- ReadsBack: what meets it is the answer
+
+one-answer : {l : Lent} {c : ℕ} {samples : List ℤ} {b : ℕ} {o o′ : Strict} → ReadsBack l c samples b o → ReadsBack l c samples b o′ → o ≡ o′
+one-answer {l} {c} {samples} {b} {o} {o′} m m′ =
+    let same : o .samples ≡ o′ .samples =
+    ext-getD (pos 0) (o .samples) (o′ .samples) (m .size ∙ sym (m′ .size)) (λ i h.
+    by-lt i (l .count)
+    (λ below. m .sample i below ∙ sym (m′ .sample i below))
+    (λ above.
+    let e : l .count + (i - l .count) ≡ i = omega arith in
+    subst (λ (j : ℕ). getD (o .samples) j (pos 0) ≡ getD (o′ .samples) j (pos 0)) e
+    (sym (getD-drop (l .count) (o .samples) (i - l .count) (pos 0))
+    ∙ ap (λ (xs : List ℤ). getD xs (i - l .count) (pos 0)) (m .rest ∙ sym (m′ .rest))
+    ∙ getD-drop (l .count) (o′ .samples) (i - l .count) (pos 0)))) in
+    λ i. record {
+      check = (m .check ∙ sym (m′ .check)) i;
+      audio = (m .audio ∙ sym (m′ .audio)) i;
+      samples = same i;
+      number = (m .number ∙ sym (m′ .number)) i;
+      part = (m .part ∙ sym (m′ .part)) i;
+      time = (m .time ∙ sym (m′ .time)) i;
+    }
+
+pub strict-decided : {k : ℕ} {y : System} {l : Lent} {frame f : List ℕ} {c : ℕ} {samples : List ℤ} {b : ℕ} {o o′ : Strict} → systemOf k ≡ Known y → Wrote k l frame 0 f
+    → isAudio c ≡ true → length samples ≡ positionsOf y → b < macroblocksOf y → StrictlyRead k f c samples b o → ReadsBack l c samples b o′ → o′ ≡ o
+strict-decided known w channel room within read m = one-answer m (writes-back known w .reads-back refl _ _ _ _ channel room within read)
