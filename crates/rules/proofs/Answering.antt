@@ -1,39 +1,30 @@
 -- The workshop of the first demand: each call has one outcome, the number that is due, and a refusal that writes nothing. Assumes nothing.
 use mathlib.Core.Path.{_≡_, refl, sym, ap, _∙_}
-use mathlib.Core.Bool.{true, false}
-use mathlib.Core.List.{List, []}
-use Prim.Native.Nat.{ℕ, _<_, _≤_}
+use mathlib.Core.List.{List}
+use Prim.Native.Nat.{ℕ}
 use native.Mathlib.Omega.{arith}
 use lib.IntN.{ℤ}
 use lib.ListN.{length}
-use borrow.Author.Tests.{eq-eqb, ne-eqb, lt-leb, le-leb}
-use Rattle.base.specs.Calls.{firstOf, ExactlyOne}
+use borrow.Author.Tests.{eq-eqb, ne-eqb}
+use Rattle.base.specs.Calls.{ExactlyOne}
 use Rattle.base.specs.Pick.{pick}
-use Rattle.base.proofs.Cases.{by-eq, by-lt}
-use Rattle.base.proofs.Picks.{pick-true, pick-false}
+use Rattle.base.proofs.Cases.{by-eq}
+use Rattle.base.proofs.Picks.{pick-true}
+use Rattle.rules.specs.declared.System.{System}
 use Rattle.rules.specs.declared.SystemNumber.{SystemNumber}
 use Rattle.rules.specs.declared.SystemNumber.the-variants.{Known, NoSystem}
-use Rattle.rules.specs.declared.Place.{Place}
-use Rattle.rules.specs.declared.IdAnswer.{IdAnswer}
-use Rattle.rules.specs.declared.IdAnswer.the-variants.{Named, Reserved, WrongLength}
 use Rattle.rules.specs.declared.Fault.{Fault}
 use Rattle.rules.specs.declared.Survey.{Survey}
 use Rattle.rules.specs.declared.AudioAnswer.{AudioAnswer}
 use Rattle.rules.specs.declared.TimeAnswer.{TimeAnswer}
-use Rattle.rules.specs.Systems.{systemOf}
-use Rattle.rules.specs.Ids.{sectionBits, idAnswer, idRefusal, idValues, IdValues}
-use Rattle.rules.specs.ReadId.{idNumber, IdRead}
-use Rattle.rules.specs.Survey.{refusal, surveyAnswer, Surveyed}
-use Rattle.rules.specs.View.{viewNumber, ViewNumbered, Viewed}
-use Rattle.rules.specs.Check.{checkNumber, Checked}
+use Rattle.rules.specs.Systems.{inSystem, systemOf}
+use Rattle.rules.specs.Ids.{idRefusal, IdValues}
+use Rattle.rules.specs.ReadId.{idNumber, idSays}
+use Rattle.rules.specs.Survey.{refusal, Surveyed}
 use Rattle.rules.specs.Audio.{audioNumber, audioAnswer, AudioRead}
-use Rattle.rules.specs.Macroblock.{macroblockNumber, MacroblockNumbered, MacroblockRead}
 use Rattle.rules.specs.Time.{timeNumber, timeRefused, timeAnswer, timeFound, TimeRead}
-use Rattle.rules.specs.Salvage.{salvageNumber, Salvaged}
-use Rattle.rules.specs.Written.{Lent}
-use Rattle.rules.specs.Write.{Wrote}
-use Rattle.rules.specs.Statements.{Answers, EveryCall}
-use Rattle.rules.proofs.Calls.{read-id-one, read-id-says-4, read-id-says-11, read-id-says-0, survey-frame-one, survey-sequence-one, survey-refused, survey-taken, view-number-one, view-one, view-refused}
+use Rattle.rules.specs.Statements.{EveryCall}
+use Rattle.rules.proofs.Calls.{read-id-one, survey-frame-one, survey-sequence-one, survey-refused, survey-taken, view-number-one, view-one, view-refused}
 use Rattle.rules.proofs.Check.{check-frame-one}
 use Rattle.rules.proofs.Audio.{read-audio-one, audio-refused}
 use Rattle.rules.proofs.Macroblock.{macroblock-number-one, macroblock-one, macroblock-refused}
@@ -52,21 +43,14 @@ pair-one p q = record {
 
 -- ---- read_id
 
-id-says : (id : List ℕ) → ((idValues (idAnswer id) .number ≡ idNumber id) × ((idValues (idAnswer id) .number ≡ 0 → ⊥) → idValues (idAnswer id) ≡ idRefusal (idValues (idAnswer id) .number)))
-unfolding idNumber firstOf pick
-id-says id =
-    by-eq (length id) 3
-    (λ three.
-    by-lt (sectionBits id) 5
-    (λ named.
-    let e = ap (λ (v : IdValues). v .number) (read-id-says-0 id three named) in
-    (e ∙ rw (eq-eqb _ _ three, lt-leb _ _ named) refl, λ d. absurd (d e)))
-    (λ reserved.
-    let e = read-id-says-11 id three reserved in
-    (ap (λ (v : IdValues). v .number) e ∙ rw (eq-eqb _ _ three, le-leb _ _ reserved) refl, λ d. rw e refl)))
-    (λ other.
-    let e = read-id-says-4 id other in
-    (ap (λ (v : IdValues). v .number) e ∙ rw (ne-eqb _ _ other) refl, λ d. rw e refl))
+module _ (id : List ℕ) where
+  says-number : idSays id .number ≡ idNumber id
+  unfolding idSays pick
+  says-number = by-eq (idNumber id) 0 (λ z. rw (eq-eqb _ 0 z) (sym z)) (λ d. rw (ne-eqb _ 0 d) refl)
+
+  says-quiet : (idSays id .number ≡ 0 → ⊥) → idSays id ≡ idRefusal (idSays id .number)
+  unfolding idSays pick
+  says-quiet d = rw (ne-eqb (idNumber id) 0 (λ z. d (says-number ∙ z))) refl
 
 -- ---- survey, survey_sequence, and salvage beside its samples
 
@@ -83,7 +67,7 @@ module _ {number : ℕ} {fs : List Fault} {list list′ : List ℕ} {r : Survey}
 -- ---- read_audio
 
 module _ (k : ℕ) (frame : List ℕ) (c : ℕ) (samples : List ℤ) {r : AudioAnswer} {samples′ : List ℤ} (a : AudioRead k frame c samples r samples′) where
-  audio-number : r .number ≡ audioNumber k frame c (length samples)
+  pub audio-number : r .number ≡ audioNumber k frame c (length samples)
   unfolding audioAnswer
   audio-number =
       by-eq (audioNumber k frame c (length samples)) 0
@@ -98,16 +82,16 @@ module _ (k : ℕ) (frame : List ℕ) (c : ℕ) (samples : List ℤ) {r : AudioA
 -- ---- read_time
 
 module _ (k : ℕ) (frame : List ℕ) where
-  found-number : (s : SystemNumber) → systemOf k ≡ s → timeNumber k frame ≡ 0 → timeFound s frame .number ≡ 0
+  found-number : timeNumber k frame ≡ 0 → (s : SystemNumber) → systemOf k ≡ s → inSystem (timeRefused 1) (λ (y : System). timeFound y frame) s .number ≡ 0
   unfolding timeFound
-  found-number (Known y) e z = refl
-  found-number NoSystem e z = absurd (omega (arith, z, time-1 k frame e))
+  found-number z (Known y) e = refl
+  found-number z NoSystem e = absurd (omega (arith, z, time-1 k frame e))
 
-  time-number : {r : TimeAnswer} → TimeRead k frame r → r .number ≡ timeNumber k frame
+  pub time-number : {r : TimeAnswer} → TimeRead k frame r → r .number ≡ timeNumber k frame
   unfolding timeAnswer
   time-number a =
       by-eq (timeNumber k frame) 0
-      (λ z. ap (λ (x : TimeAnswer). x .number) (a .answer ∙ pick-true _ _ (eq-eqb _ 0 z)) ∙ found-number (systemOf k) refl z ∙ sym z)
+      (λ z. ap (λ (x : TimeAnswer). x .number) (a .answer ∙ pick-true _ _ (eq-eqb _ 0 z)) ∙ found-number z (systemOf k) refl ∙ sym z)
       (λ d. ap (λ (x : TimeAnswer). x .number) (time-refused k frame a d))
 
 -- ---- all
@@ -116,8 +100,8 @@ pub every-call : EveryCall
 every-call = record {
   read-id = λ id. record {
     one = read-id-one id;
-    numbered = λ o m. ap (λ (a : IdAnswer). idValues a .number) (m .answer) ∙ id-says id .0;
-    refused = λ o m d. rw (m .answer) (id-says id .1 (λ z. d (ap (λ (a : IdAnswer). idValues a .number) (m .answer) ∙ z)));
+    numbered = λ o m. ap (λ (v : IdValues). v .number) (m .says) ∙ says-number id;
+    refused = λ o m d. rw (m .says) (says-quiet id (λ z. d (ap (λ (v : IdValues). v .number) (m .says) ∙ z)));
   };
   survey = λ k frame list. record {
     one = survey-frame-one k frame list;

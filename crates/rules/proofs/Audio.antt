@@ -27,7 +27,7 @@ use Rattle.rules.specs.Samples.{numberOf}
 use Rattle.rules.specs.Sound.{difOf}
 use Rattle.rules.specs.Check.{everySequence, unflagged, checkRows}
 use Rattle.rules.specs.Reading.{readSample}
-use Rattle.rules.specs.Audio.{firstOfHalf, everyRow, asIn, asKeeps, countIs, countFor, isAudio, audioRows, audioNumber, countAnswered, audioAnswer, heard, audioLeft, AudioRead}
+use Rattle.rules.specs.Audio.{firstOfHalf, everyRow, asIn, asKeeps, countIs, countFor, isAudio, audioRows, audioNumber, audioAnswer, heard, audioLeft, AudioRead}
 use Rattle.rules.proofs.Systems.{half-cases, count-below}
 use Rattle.rules.proofs.Sound.{half-some}
 use Rattle.rules.proofs.Aaux.{as-means}
@@ -161,13 +161,13 @@ module _ (k : ℕ) (frame : List ℕ) (c : ℕ) (list : List ℤ) where
     pub audio-taken : {r : AudioAnswer} {list′ : List ℤ} → AudioRead k frame c list r list′
         → (r ≡ record { number = 0; count = countFor y frame c })
         × (list′ ≡ tab (λ (t : ℕ). numberOf (readSample y frame c t)) (countFor y frame c) ++ drop (countFor y frame c) list)
-    unfolding audioAnswer audioLeft countAnswered heard
+    unfolding audioAnswer audioLeft heard
     audio-taken a = (a .answer ∙ pick-true _ _ (eq-eqb _ 0 zero) ∙ rw known refl, a .left ∙ pick-true _ _ (eq-eqb _ 0 zero) ∙ rw known refl)
 
     -- the same as the code leaves it
     pub audio-done : (r : AudioAnswer) (list′ : List ℤ) → r ≡ record { number = 0; count = countFor y frame c }
         → list′ ≡ tab (λ (t : ℕ). numberOf (readSample y frame c t)) (countFor y frame c) ++ drop (countFor y frame c) list → AudioRead k frame c list r list′
-    unfolding audioAnswer audioLeft countAnswered heard
+    unfolding audioAnswer audioLeft heard
     audio-done r list′ er el = record {
       answer = er ∙ sym (pick-true _ _ (eq-eqb _ 0 zero) ∙ rw known refl);
       left = el ∙ sym (pick-true _ _ (eq-eqb _ 0 zero) ∙ rw known refl);

@@ -7,10 +7,10 @@ use Prim.Native.Nat.{ℕ, suc, _*_, _/_, _≤_, _<_, min}
 use native.Mathlib.Omega.{arith}
 use lib.Dec.{eqb, leb}
 use lib.ListN.{length}
-use borrow.Author.Tests.{eq-eqb, ne-eqb, lt-leb, leb-false, lt-ltb, le-ltb}
+use borrow.Author.Tests.{eq-eqb, ne-eqb, lt-leb, le-leb, leb-false, lt-ltb, le-ltb}
 use Rattle.base.specs.Calls.{firstOf, _when_, ExactlyOne}
 use Rattle.base.specs.Pick.{pick}
-use Rattle.base.proofs.Cases.{by-bool, by-eq}
+use Rattle.base.proofs.Cases.{by-bool, by-lt, by-eq}
 use Rattle.base.proofs.Picks.{pick-true, pick-false, neither}
 use Rattle.rules.specs.declared.System.{System}
 use Rattle.rules.specs.declared.SystemNumber.the-variants.{Known, NoSystem}
@@ -26,7 +26,7 @@ use Rattle.rules.specs.Blocks.{blockAt}
 use Rattle.rules.specs.Faults.{faultAt}
 use Rattle.rules.specs.Records.{kept, after}
 use Rattle.rules.specs.Noting.{Noted}
-use Rattle.rules.specs.ReadId.{IdRead}
+use Rattle.rules.specs.ReadId.{idNumber, idSays, IdRead}
 use Rattle.rules.specs.Survey.{outsideSequences, surveyNumber, sequenceNumber, refusal, surveyAnswer, surveyLeft, Surveyed, FrameSurveyed, SequenceSurveyed}
 use Rattle.rules.specs.View.{viewNumber, viewPart, ViewNumbered, Viewed}
 use Rattle.rules.proofs.Places.{code-section}
@@ -34,9 +34,6 @@ use Rattle.rules.proofs.Blocks.{block-length}
 use Rattle.rules.proofs.Records.{kept-length, more-after}
 
 -- ---- read_id
-
-pub read-id-one : (id : List ℕ) → ExactlyOne IdAnswer (IdRead id)
-read-id-one id = record { outcome = idAnswer id; meets = record { answer = refl }; only = λ o m. m .answer }
 
 module _ (id : List ℕ) where
   pub read-id-4 : (length id ≡ 3 → ⊥) → idAnswer id ≡ WrongLength
@@ -62,6 +59,24 @@ module _ (id : List ℕ) where
       → idValues (idAnswer id) ≡ record { number = 0; section = sectionBits id; channel = channelOf (fscBit id) (fspBit id); dseq = dseqBits id; dbn = dbnByte id }
   unfolding namedBy
   read-id-says-0 e s = ap idValues (read-id-0 e s) ∙ rw (code-section (sectionBits id) s) refl
+
+  -- and at once, by the refusal table
+  read-id-says : idValues (idAnswer id) ≡ idSays id
+  unfolding idSays idNumber firstOf pick
+  read-id-says =
+      by-eq (length id) 3
+      (λ three.
+      by-lt (sectionBits id) 5
+      (λ named. read-id-says-0 three named ∙ rw (eq-eqb _ _ three, lt-leb _ _ named) refl)
+      (λ reserved. read-id-says-11 three reserved ∙ rw (eq-eqb _ _ three, le-leb _ _ reserved) refl))
+      (λ other. read-id-says-4 other ∙ rw (ne-eqb _ _ other) refl)
+
+  -- whoever answers so answers the paper's number and values
+  pub id-read : (r : IdAnswer) → r ≡ idAnswer id → IdRead id r
+  id-read r e = record { answer = e; says = ap idValues e ∙ read-id-says }
+
+  pub read-id-one : ExactlyOne IdAnswer (IdRead id)
+  read-id-one = record { outcome = idAnswer id; meets = id-read (idAnswer id) refl; only = λ o m. m .answer }
 
 -- ---- survey and survey_sequence
 

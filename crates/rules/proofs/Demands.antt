@@ -17,17 +17,17 @@ use Rattle.rules.specs.Survey.{FrameSurveyed}
 use Rattle.rules.specs.Audio.{isAudio}
 use Rattle.rules.specs.Salvage.{Salvaged}
 use Rattle.rules.specs.Written.{Lent}
-use Rattle.rules.specs.Write.{Wrote}
+use Rattle.rules.specs.Write.{Wrote, Takes}
 use Rattle.rules.specs.Rows.{rowsAgree, printedRows}
 use Rattle.rules.specs.Known.{all, table}
-use Rattle.rules.specs.Statements.{EveryCall, Strict, StrictlyRead, ReadsBack, WritesBack, SampleSalvaged, Listed, Salvages, tone, Made}
+use Rattle.rules.specs.Statements.{EveryCall, Strict, StrictlyRead, ReadOut, ReadsBack, WritesBack, SampleSalvaged, Listed, Salvages, tone}
 use Rattle.rules.proofs.Picture.{rows-agree}
 use Rattle.rules.proofs.Faults.{fault-names, names-fault}
 use Rattle.rules.proofs.Known.{table-agrees}
 use Rattle.rules.proofs.Answering.{every-call}
-use Rattle.rules.proofs.ReadingBack.{writes-back, strict-decided}
+use Rattle.rules.proofs.ReadingBack.{read-out, writes-back, strict-decided}
 use Rattle.rules.proofs.Salvaging.{survey-lists, salvages, salvage-decided}
-use Rattle.rules.proofs.Worthless.{tone-made, one-for-two, frame-for-two, all-lost}
+use Rattle.rules.proofs.Worthless.{tone-taken, one-for-two, frame-for-two, all-lost}
 
 -- ---- the rules: the known places of document 01, the printed rows of tables 22 to 24, and what it is to name a place
 
@@ -37,18 +37,18 @@ known-places = table-agrees
 pub printed-rows : T (rowsAgree printedRows)
 printed-rows = rows-agree
 
-pub fault-0-names : (block : List ℕ) (h q p : ℕ) → faultAt block h q p ≡ 0 → NamesPlace block h q p
-fault-0-names = fault-names
-
-pub names-fault-0 : (block : List ℕ) (h q p : ℕ) → NamesPlace block h q p → faultAt block h q p ≡ 0
-names-fault-0 = names-fault
+pub names-place : (block : List ℕ) (h q p : ℕ) → (faultAt block h q p ≡ 0 → NamesPlace block h q p) × (NamesPlace block h q p → faultAt block h q p ≡ 0)
+names-place block h q p = (fault-names block h q p, names-fault block h q p)
 
 -- ---- 1: every public call, on every input
 
 pub demand-1 : EveryCall
 demand-1 = every-call
 
--- ---- 2: whatever is lent to the writer
+-- ---- 2: whatever frame is read, and whatever is lent to the writer
+
+pub demand-2-reads : {k : ℕ} {y : System} {f : List ℕ} {c : ℕ} {samples : List ℤ} {b : ℕ} {o : Strict} → systemOf k ≡ Known y → StrictlyRead k f c samples b o → ReadOut y f c b o
+demand-2-reads = read-out
 
 pub demand-2 : {k : ℕ} {y : System} {l : Lent} {frame : List ℕ} {r : ℕ} {f : List ℕ} → systemOf k ≡ Known y → Wrote k l frame r f → WritesBack k y l frame r f
 demand-2 = writes-back
@@ -79,8 +79,8 @@ demand-3-surveys = survey-lists
 -- ---- the premises can be met, for each system and count, and no worthless build meets the demands
 
 module _ (y : System) (count : ℕ) (own : isCount y count ≡ true) where
-  pub not-all-refused : Made y (tone y count 5)
-  not-all-refused = tone-made y count own
+  pub not-all-refused : Takes y (tone y count 5) (48000 * sequencesOf y)
+  not-all-refused = tone-taken y count own
 
   pub not-one-answer : (c : ℕ) {samples : List ℤ} {b : ℕ} {o : Strict} → isAudio c ≡ true → ReadsBack (tone y count 5) c samples b o → ReadsBack (tone y count 6) c samples b o → ⊥
   not-one-answer = one-for-two y count own

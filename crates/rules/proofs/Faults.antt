@@ -8,7 +8,7 @@ use native.Mathlib.Nat.{div-add-mod}
 use native.Mathlib.Omega.{arith}
 use lib.ListN.{length, take, drop, length-append}
 use lib.Seq.{length-take-le}
-use borrow.Author.Tests.{eq-eqb, eqb-true, not-false}
+use borrow.Author.Tests.{eq-eqb, ne-eqb, eqb-true, not-false}
 use Rattle.base.specs.Calls.{firstOf, _when_}
 use Rattle.base.specs.Pick.{pick}
 use Rattle.base.specs.Run.{run}
@@ -76,6 +76,30 @@ pub names-fault : (block : List ℕ) (h q p : ℕ) → NamesPlace block h q p �
 unfolding faultAt faultOf
 names-fault block h q p n =
     rw (n .named) (misnamed-none (n .id) h q (entryAt (place p)) (n .section) (n .channel) (n .dseq) (n .dbn))
+
+-- "reserved section"; "section, channel, Dseq, DBN not the place's", the lowest number first
+pub fault-11 : (block : List ℕ) (h q p : ℕ) → blockAnswer block ≡ Reserved → faultAt block h q p ≡ 11
+unfolding faultAt faultOf
+fault-11 block h q p e = rw e refl
+
+module _ (block : List ℕ) (h q p : ℕ) (b : BlockId) (named : blockAnswer block ≡ Named b) where
+  pub fault-12 : (b .section ≡ entryAt (place p) .section → ⊥) → faultAt block h q p ≡ 12
+  unfolding faultAt faultOf misnamed firstOf pick
+  fault-12 d = rw (named, ne-eqb _ _ (λ e. d (code-one _ _ e))) refl
+
+  module _ (section : b .section ≡ entryAt (place p) .section) where
+    pub fault-13 : (b .channel ≡ h → ⊥) → faultAt block h q p ≡ 13
+    unfolding faultAt faultOf misnamed firstOf pick
+    fault-13 d = rw (named, eq-eqb _ _ (ap codeOf section), ne-eqb _ _ d) refl
+
+    module _ (channel : b .channel ≡ h) where
+      pub fault-14 : (b .dseq ≡ q → ⊥) → faultAt block h q p ≡ 14
+      unfolding faultAt faultOf misnamed firstOf pick
+      fault-14 d = rw (named, eq-eqb _ _ (ap codeOf section), eq-eqb _ _ channel, ne-eqb _ _ d) refl
+
+      pub fault-15 : b .dseq ≡ q → (b .dbn .0 ≡ entryAt (place p) .number .0 → ⊥) → faultAt block h q p ≡ 15
+      unfolding faultAt faultOf misnamed firstOf pick
+      fault-15 dseq d = rw (named, eq-eqb _ _ (ap codeOf section), eq-eqb _ _ channel, eq-eqb _ _ dseq, ne-eqb _ _ d) refl
 
 -- none, or one of 11 to 15
 pub fault-within : (block : List ℕ) (h q p : ℕ) → 3 ≤ length block → FaultNumber (faultAt block h q p)

@@ -19,6 +19,11 @@ use Rattle.rules.proofs.Places.{section-code, code-below}
 
 -- ---- channelOf
 
+-- "(FSC, FSP) = (0,1), (1,1), (0,0), (1,0) is channel 0, 1, 2, 3"
+pub channel-pairs : (channelOf 0 1 ≡ 0) × (channelOf 1 1 ≡ 1) × (channelOf 0 0 ≡ 2) × (channelOf 1 0 ≡ 3)
+unfolding channelOf pick
+channel-pairs = (refl, refl, refl, refl)
+
 pub channel-bits : (h : ℕ) → h < 4 → channelOf (fscOf h) (fspOf h) ≡ h
 unfolding channelOf pick
 channel-bits h l = eqb→eq _ _ (below-at (λ k. eqb (channelOf (fscOf k) (fspOf k)) k) 4 tt h l)

@@ -23,7 +23,7 @@ use Rattle.rules.specs.Places.{placeIn}
 use Rattle.rules.specs.Blocks.{blockAt}
 use Rattle.rules.specs.Picture.{carriedIn, carrierOf}
 use Rattle.rules.specs.Check.{everySequence, unflagged, checkRows}
-use Rattle.rules.specs.Macroblock.{pictureRows, macroblockNumber, slotBytes, carrierBytes, macroblockBytes, macroblockPart, MacroblockNumbered, MacroblockRead}
+use Rattle.rules.specs.Macroblock.{pictureRows, macroblockNumber, slotBytes, carrierBytes, macroblockPart, MacroblockNumbered, MacroblockRead}
 use Rattle.rules.proofs.Places.{place-in-below}
 use Rattle.rules.proofs.Blocks.{block-length}
 use Rattle.rules.proofs.Picture.{carried-inside, carried-lies, carrier-one}
@@ -100,7 +100,7 @@ module _ (k : ℕ) (frame : List ℕ) (b : ℕ) where
   module _ (y : System) (known : systemOf k ≡ Known y) (zero : macroblockNumber k frame b ≡ 0) where
     -- else the bytes behind the ID of the block that carries it
     pub macroblock-taken : (s : Slot) → carrierOf y b ≡ In s → macroblockPart k frame b ≡ slotBytes y frame s
-    unfolding macroblockPart macroblockBytes carrierBytes
+    unfolding macroblockPart carrierBytes
     macroblock-taken s e = pick-true _ _ (eq-eqb _ 0 zero) ∙ rw (known, e) refl
 
     -- which is the one slot that carries it

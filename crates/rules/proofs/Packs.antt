@@ -129,13 +129,13 @@ last-frame I50 = refl
 last-frame P60 = refl
 last-frame P50 = refl
 
-pub digits-means : (tens most b : ℕ) → digitsOk tens most b ≡ true → Digits tens most b
-digits-means tens most b e =
-    let two = both-held (ltb (b % 16) 10) (leb (valueIn tens b) most) e in
-    record { units = ltb-true (b % 16) 10 (two .0); value = leb-true (valueIn tens b) most (two .1) }
+pub digits-means : (values most b : ℕ) → digitsOk values most b ≡ true → Digits values most b
+digits-means values most b e =
+    let two = both-held (ltb (b % 16) 10) (leb (valueIn values b) most) e in
+    record { units = ltb-true (b % 16) 10 (two .0); value = leb-true (valueIn values b) most (two .1) }
 
-pub digits-when : (tens most b : ℕ) → Digits tens most b → digitsOk tens most b ≡ true
-digits-when tens most b d = rw (lt-ltb (b % 16) 10 (d .units)) (le-leb (valueIn tens b) most (d .value))
+pub digits-when : (values most b : ℕ) → Digits values most b → digitsOk values most b ≡ true
+digits-when values most b d = rw (lt-ltb (b % 16) 10 (d .units)) (le-leb (valueIn values b) most (d .value))
 
 -- ---- clockOk, timeOk
 

@@ -16,25 +16,21 @@ use Rattle.base.proofs.Runs.{length-tab, tab-part}
 use Rattle.rules.specs.declared.System.{System}
 use Rattle.rules.specs.declared.SystemNumber.the-variants.{Known}
 use Rattle.rules.specs.declared.AudioAnswer.{AudioAnswer}
-use Rattle.rules.specs.declared.Slot.{Slot}
-use Rattle.rules.specs.declared.Carried.the-variants.{Macroblock}
-use Rattle.rules.specs.Systems.{sequencesOf, positionsOf, macroblocksOf, systemOf}
-use Rattle.rules.specs.TimeCode.{timePack, groupPack}
-use Rattle.rules.specs.Samples.{numberOf, sampleOf, backOf}
-use Rattle.rules.specs.Picture.{carriedIn}
-use Rattle.rules.specs.Check.{checkNumber}
+use Rattle.rules.specs.Systems.{positionsOf, macroblocksOf, systemOf}
+use Rattle.rules.specs.Samples.{numberOf, backOf}
 use Rattle.rules.specs.Reading.{readSample}
 use Rattle.rules.specs.Audio.{isAudio, countFor, audioNumber}
 use Rattle.rules.specs.Macroblock.{macroblockNumber, macroblockPart}
-use Rattle.rules.specs.Time.{fourBytes, timeNumber}
-use Rattle.rules.specs.Written.{Lent, given, storedWord, writtenFrame}
+use Rattle.rules.specs.Time.{timeNumber, timeFound}
+use Rattle.rules.specs.Written.{Lent, writtenFrame}
 use Rattle.rules.specs.Write.{Wrote, Takes}
-use Rattle.rules.specs.Statements.{LaidOut, Strict, StrictlyRead, ReadsBack, WritesBack}
+use Rattle.rules.specs.Statements.{Strict, StrictlyRead, ReadOut, LaidOut, given, ReadsBack, WritesBack}
 use Rattle.rules.proofs.Systems.{count-below}
 use Rattle.rules.proofs.Picture.{carrier-one, carried-lies}
 use Rattle.rules.proofs.Audio.{audio-rows, audio-taken, audio-sample}
 use Rattle.rules.proofs.Macroblock.{macroblock-rows, macroblock-carried}
 use Rattle.rules.proofs.Time.{time-rows, time-taken}
+use Rattle.rules.proofs.Answering.{audio-number, time-number}
 use Rattle.rules.proofs.Written.{frame-length, frame-block, frame-high, frame-low, stored-given}
 use Rattle.rules.proofs.Back.{rows-written, check-written, count-written, audio-written, sample-written, picture-written, slot-written, group-written, clock-written, settled-written}
 use Rattle.rules.proofs.Write.{taken-takes, write-taken}
@@ -46,6 +42,19 @@ audio-above c e = ltb-true 0 c (both-held (ltb 0 c) (ltb c 9) e .0)
 
 pub audio-below : (c : ℕ) → isAudio c ≡ true → c < 9
 audio-below c e = ltb-true c 9 (both-held (ltb 0 c) (ltb c 9) e .1)
+
+-- ---- any frame
+
+pub read-out : {k : ℕ} {y : System} {f : List ℕ} {c : ℕ} {samples : List ℤ} {b : ℕ} {o : Strict} → systemOf k ≡ Known y → StrictlyRead k f c samples b o → ReadOut y f c b o
+unfolding timeFound
+read-out {k} {y} {f} {c} {samples} {b} {o} known read =
+    let zero : o .audio .number ≡ 0 → audioNumber k f c (length samples) ≡ 0 = λ z. sym (audio-number k f c samples (read .audio)) ∙ z in
+    record {
+      count = λ z. ap (λ (a : AudioAnswer). a .count) (audio-taken k f c samples y known (zero z) (read .audio) .0);
+      sample = λ z. audio-sample k f c samples y known (zero z) (read .audio);
+      macroblock = λ z s e. read .part .answer ∙ macroblock-carried k f b y known (sym (read .number .answer) ∙ z) s e;
+      time = λ z. time-taken k f y known (sym (time-number k f (read .time)) ∙ z) (read .time);
+    }
 
 -- ---- fourBytes: those that a pack was made of
 

@@ -22,7 +22,7 @@ use Rattle.rules.specs.Samples.{lost, numberOf}
 use Rattle.rules.specs.Faults.{faultsIn}
 use Rattle.rules.specs.Survey.{surveyNumber, refusal, surveyAnswer, surveyLeft, FrameSurveyed}
 use Rattle.rules.specs.Reading.{soundNamed, readSample, salvagedSample}
-use Rattle.rules.specs.Salvage.{salvagedChannel, salvaged, salvageNumber, salvagedFor, salvageLeft, Salvaged}
+use Rattle.rules.specs.Salvage.{salvagedChannel, salvaged, salvageNumber, salvageLeft, Salvaged}
 use Rattle.rules.proofs.Calls.{survey-refused, survey-0}
 use Rattle.rules.proofs.Reading.{salvaged-named, salvaged-lost}
 
@@ -106,7 +106,7 @@ module _ {k : ℕ} {frame : List ℕ} {samples samples′ : List ℤ} {list list
 
   module _ (y : System) (known : systemOf k ≡ Known y) (zero : salvageNumber k frame (length samples) ≡ 0) where
     pub salvage-taken : samples′ ≡ salvaged y frame
-    unfolding salvageLeft salvagedFor
+    unfolding salvageLeft
     salvage-taken = s .left ∙ pick-true _ _ (eq-eqb _ 0 zero) ∙ rw known refl
 
     -- "Salvage and survey give the same list, total and kept for the same frame."

@@ -2,33 +2,29 @@
 use mathlib.Core.Path.{_≡_, refl, sym, ap, _∙_, subst}
 use mathlib.Core.Bool.{true}
 use mathlib.Core.List.{List, [], _∷_}
-use Prim.Native.Nat.{ℕ, _+_, _-_, _*_, _≤_, _<_}
+use Prim.Native.Nat.{ℕ, _+_, _-_, _*_, _<_}
 use native.Mathlib.Omega.{arith}
 use borrow.Author.Tests.{lt-ltb}
 use lib.IntN.{ℤ, pos}
-use lib.ListN.{length, getD, replicate, length-replicate, getD-replicate}
-use Rattle.base.specs.Pick.{pick}
+use lib.ListN.{length, replicate, length-replicate, getD-replicate}
 use Rattle.base.proofs.Picks.{pick-true}
 use Rattle.base.proofs.Runs.{end-within}
 use Rattle.rules.specs.declared.System.{System}
 use Rattle.rules.specs.declared.System.the-variants.{I60, I50, P60, P50}
 use Rattle.rules.specs.declared.SystemNumber.the-variants.{Known}
-use Rattle.rules.specs.Systems.{sequencesOf, halfOf, positionsOf, isCount, macroblocksOf, numberOf, systemOf}
+use Rattle.rules.specs.Systems.{sequencesOf, halfOf, positionsOf, isCount, macroblocksOf, systemOf}
 use Rattle.rules.specs.TimeCode.{timePack, timeTaken}
-use Rattle.rules.specs.Samples.{lost, inRange, backOf, allInRange}
-use Rattle.rules.specs.Reading.{soundBlock}
+use Rattle.rules.specs.Samples.{lost, inRange, backOf}
 use Rattle.rules.specs.Audio.{isAudio}
-use Rattle.rules.specs.Written.{Lent, given, writtenFrame}
 use Rattle.rules.specs.Write.{Wrote, Takes}
-use Rattle.rules.specs.Statements.{Strict, StrictlyRead, ReadsBack, SampleSalvaged, tone, Made}
-use Rattle.rules.proofs.Systems.{half-cases, system-number, count-turns, macroblocks-some}
+use Rattle.rules.specs.Statements.{Strict, StrictlyRead, given, ReadsBack, SampleSalvaged, tone}
+use Rattle.rules.proofs.Systems.{half-cases, count-turns, macroblocks-some}
 use Rattle.rules.proofs.Samples.{back-other, all-pass}
 use Rattle.rules.proofs.Sound.{half-some}
 use Rattle.rules.proofs.Check.{check-frame-one}
 use Rattle.rules.proofs.Audio.{read-audio-one}
 use Rattle.rules.proofs.Macroblock.{macroblock-number-one, macroblock-one}
 use Rattle.rules.proofs.Time.{read-time-one}
-use Rattle.rules.proofs.Write.{write-frame-one, write-taken}
 use Rattle.rules.proofs.ReadingBack.{audio-above, audio-below, writes-back}
 
 -- ---- tone: the writer takes it
@@ -41,7 +37,7 @@ tone-clock P60 = refl
 tone-clock P50 = refl
 
 module _ (y : System) (count : ℕ) (own : isCount y count ≡ true) where
-  tone-taken : Takes y (tone y count 5) (48000 * sequencesOf y)
+  pub tone-taken : Takes y (tone y count 5) (48000 * sequencesOf y)
   unfolding inRange
   tone-taken = record {
     frame = refl;
@@ -54,20 +50,6 @@ module _ (y : System) (count : ℕ) (own : isCount y count ≡ true) where
         ap inRange (getD-replicate (8 * count) i (pos 5) (pos 0) (subst (λ (n : ℕ). i < n) (length-replicate (8 * count) (pos 5)) h)));
     clock = tone-clock y;
   }
-
-  pub tone-made : Made y (tone y count 5)
-  tone-made =
-      let frame : List ℕ = replicate (48000 * sequencesOf y) 0 in
-      let one = write-frame-one (numberOf y) (tone y count 5) frame in
-      let sized : length frame ≡ 48000 * sequencesOf y = length-replicate (48000 * sequencesOf y) 0 in
-      let taken = write-taken (numberOf y) y (system-number y) (tone y count 5) frame (subst (Takes y (tone y count 5)) (sym sized) tone-taken) (one .meets) in
-      record {
-        k = numberOf y;
-        known = system-number y;
-        frame = frame;
-        f = one .outcome .1;
-        wrote = subst (λ (r : ℕ). Wrote (numberOf y) (tone y count 5) frame r (one .outcome .1)) (taken .0) (one .meets);
-      }
 
 -- ---- the strict reads answer of every frame
 

@@ -4,7 +4,6 @@ use mathlib.Core.Path.{_≡_, refl, sym, _∙_}
 use mathlib.Core.Bool.{true, false}
 use mathlib.Core.List.{List}
 use Prim.Native.Nat.{ℕ, _*_}
-use native.Mathlib.Omega.{arith}
 use lib.Dec.{eqb}
 use lib.ListN.{length}
 use borrow.Author.Tests.{eq-eqb, ne-eqb, eqb-true, not-false}
@@ -17,7 +16,7 @@ use Rattle.rules.specs.Systems.{sequencesOf, isCount, systemOf}
 use Rattle.rules.specs.TimeCode.{timePack, timeTaken}
 use Rattle.rules.specs.Samples.{allInRange}
 use Rattle.rules.specs.Written.{Lent, writtenFrame}
-use Rattle.rules.specs.Write.{lengthsOk, writeNumber, frameFor, writeLeft, Wrote, Takes}
+use Rattle.rules.specs.Write.{lengthsOk, writeNumber, writeLeft, Wrote, Takes}
 
 -- ---- Wrote
 
@@ -108,7 +107,7 @@ module _ (k : ℕ) (y : System) (known : systemOf k ≡ Known y) (l : Lent) (fra
   write-takes w = taken-takes k l (length frame) y known (sym (w .answer))
 
   pub write-taken : {r : ℕ} {frame′ : List ℕ} → Takes y l (length frame) → Wrote k l frame r frame′ → (r ≡ 0) × (frame′ ≡ writtenFrame y l)
-  unfolding writeLeft frameFor
+  unfolding writeLeft
   write-taken t w =
       let z = takes-taken k l (length frame) y known t in
       (w .answer ∙ z, w .left ∙ pick-true _ _ (eq-eqb _ _ z) ∙ rw known refl)
@@ -120,6 +119,6 @@ write-stopped k l frame r e d = record { answer = e; left = sym (pick-false _ _ 
 
 pub write-done : (k : ℕ) (y : System) (l : Lent) (frame frame′ : List ℕ) (r : ℕ) → systemOf k ≡ Known y → r ≡ writeNumber k l (length frame) → r ≡ 0 → frame′ ≡ writtenFrame y l
     → Wrote k l frame 0 frame′
-unfolding writeLeft frameFor
+unfolding writeLeft
 write-done k y l frame frame′ r known e z left =
     record { answer = sym z ∙ e; left = left ∙ sym (pick-true _ _ (eq-eqb _ 0 (sym e ∙ z)) ∙ rw known refl) }

@@ -33,7 +33,7 @@ use Rattle.rules.specs.Sound as sound
 use Rattle.rules.specs.Sound.{difOf, halfAt, rowOf, audioOf, wordNumber, byteOf, audioAt, sampleAt}
 use Rattle.rules.specs.Picture.{slot, carriedIn}
 use Rattle.rules.specs.Faults.{faultAt, blockFaults, sequenceFaults, channelFaults, frameFaults}
-use Rattle.rules.specs.Written.{Lent, given, storedWord, wordBytes, audioBytes, carriedBytes, videoBytes, payload, entryBlock, writtenBlock, writtenSequence, writtenChannel, writtenFrame}
+use Rattle.rules.specs.Written.{Lent, storedWord, wordBytes, audioBytes, carriedBytes, videoBytes, payload, entryBlock, writtenBlock, writtenSequence, writtenChannel, writtenFrame}
 use Rattle.rules.proofs.Systems.{half-cases, half-twice, positions-half, sequences-le}
 use Rattle.rules.proofs.Places.{place-in-below, entry-place-in}
 use Rattle.rules.proofs.Blocks.{block-in-sequence}
@@ -202,13 +202,13 @@ module _ (y : System) (l : Lent) (c t : ℕ) (c1 : 0 < c) (c8 : c < 9) (ht : t <
 
 -- what a word says that was stored: the number that was given, or silence from the count on
 pub stored-given : (l : Lent) (c t : ℕ) → 0 < c → c < 9 → length (l .sound) ≡ 8 * l .count → allInRange (l .sound) ≡ true → t < l .count
-    → numberOf (sampleOf (storedWord l c t)) ≡ backOf (given l c t)
+    → numberOf (sampleOf (storedWord l c t)) ≡ backOf (getD (l .sound) ((c - 1) * l .count + t) (pos 0))
 unfolding storedWord
 stored-given l c t c1 c8 len all ht =
     let c7 : c - 1 < 8 = omega arith in
     let b : (c - 1) * l .count + t < length (l .sound) = omega (arith, end-within (l .count) (c - 1) 8 c7) in
     ap (λ (w : ℕ). numberOf (sampleOf w)) (pick-true _ _ (lt-ltb t (l .count) ht))
-    ∙ number-again (given l c t) (all-in (l .sound) ((c - 1) * l .count + t) all b)
+    ∙ number-again (getD (l .sound) ((c - 1) * l .count + t) (pos 0)) (all-in (l .sound) ((c - 1) * l .count + t) all b)
 
 pub stored-tail : (l : Lent) (c t : ℕ) → l .count ≤ t → storedWord l c t ≡ 0
 unfolding storedWord

@@ -14,7 +14,7 @@ use Rattle.rules.specs.Packs.{packIn, onesAfter, noPack}
 unfoldable pub asAt : ℕ → ℕ
 asAt q = pick (eqb (q % 2) 0) 3 0
 
--- "AF size .. (20, 22, 24 for 1,600, 1,602, 1,920 ..)"
+-- "AF size .. (20, 22, 24 for 1,600, 1,602, 1,920 ..)"; a count that is none of them is refused before
 unfoldable pub sizeOf : ℕ → ℕ
 sizeOf count = pick (eqb count 1600) 20 (pick (eqb count 1602) 22 24)
 
@@ -28,7 +28,7 @@ modeOf c = (c + 1) % 2
 
 -- ---- what is written
 
--- "AS: 50h; LF 0 in bit 7 and AF size in bits 5-0; bit 7 zero, CHN 00 in bits 6-5, mode in bits 3-0; 50/60 bit 5, STYPE 00011;
+-- "AS: 50h; LF 0 in bit 7 and AF size in bits 5-0 ..; bit 7 zero, CHN 00 in bits 6-5, mode in bits 3-0 ..; 50/60 bit 5, STYPE 00011;
 -- SMP and QU 000 in bits 5-0"
 unfoldable pub asPack : System → ℕ → ℕ → Pack
 asPack y count c = record { pc0 = 0x50; pc1 = 0x40 + sizeOf count; pc2 = 0x10 + modeOf c; pc3 = 0xC3 + rateOf y * 0x20; pc4 = 0xC0 }
@@ -47,7 +47,7 @@ aauxPack y count c q a = pick (eqb a (asAt q)) (asPack y count c) (pick (eqb a (
 abbrev pub countIn : Pack → ℕ
 countIn p = countOf (p .pc1 % 64)
 
--- 24: an AS of audio channel c keeps the rules; "only the system's own counts"
+-- not 24: an AS of audio channel c keeps the rules; "only the system's own counts"
 abbrev pub asOk : System → ℕ → Pack → Bool
 asOk y c p =
     eqb (p .pc0) 0x50

@@ -10,12 +10,10 @@ use Rattle.base.specs.Calls.{Refusal, firstOf, _when_}
 use Rattle.base.specs.Pick.{pick}
 use Rattle.base.specs.Run.{tab}
 use Rattle.rules.specs.declared.System.{System}
-use Rattle.rules.specs.declared.SystemNumber.{SystemNumber}
-use Rattle.rules.specs.declared.SystemNumber.the-variants.{Known, NoSystem}
 use Rattle.rules.specs.declared.Section.the-variants.{Audio}
 use Rattle.rules.specs.declared.Pack.{Pack}
 use Rattle.rules.specs.declared.AudioAnswer.{AudioAnswer}
-use Rattle.rules.specs.Systems.{halfOf, systemOf, isNoSystem, positionsIn, rowsIn, frameBytes}
+use Rattle.rules.specs.Systems.{halfOf, inSystem, systemOf, isNoSystem, positionsIn, rowsIn, frameBytes}
 use Rattle.rules.specs.Places.{placeIn}
 use Rattle.rules.specs.Blocks.{sequenceAt, blockIn}
 use Rattle.rules.specs.Aaux.{asAt, countIn, asOk, aauxIn}
@@ -75,22 +73,17 @@ audioNumber k frame c size = firstOf (
 
 -- ---- the answer and the list: "the count answered and entries from the count on untouched"
 
-unfoldable pub countAnswered : SystemNumber → List ℕ → ℕ → ℕ
-countAnswered (Known y) frame c = countFor y frame c
-countAnswered NoSystem frame c = 0
-
 unfoldable pub audioAnswer : ℕ → List ℕ → ℕ → ℕ → AudioAnswer
 audioAnswer k frame c size =
     pick (eqb (audioNumber k frame c size) 0)
-    (record { number = 0; count = countAnswered (systemOf k) frame c })
+    (record { number = 0; count = inSystem 0 (λ (y : System). countFor y frame c) (systemOf k) })
     (record { number = audioNumber k frame c size; count = 0 })
 
-unfoldable pub heard : SystemNumber → List ℕ → ℕ → List ℤ → List ℤ
-heard (Known y) frame c list = tab (λ (t : ℕ). numberOf (readSample y frame c t)) (countFor y frame c) ++ drop (countFor y frame c) list
-heard NoSystem frame c list = list
+unfoldable pub heard : System → List ℕ → ℕ → List ℤ → List ℤ
+heard y frame c list = tab (λ (t : ℕ). numberOf (readSample y frame c t)) (countFor y frame c) ++ drop (countFor y frame c) list
 
 unfoldable pub audioLeft : ℕ → List ℕ → ℕ → List ℤ → List ℤ
-audioLeft k frame c list = pick (eqb (audioNumber k frame c (length list)) 0) (heard (systemOf k) frame c list) list
+audioLeft k frame c list = pick (eqb (audioNumber k frame c (length list)) 0) (inSystem list (λ (y : System). heard y frame c list) (systemOf k)) list
 
 -- system k, the frame, audio channel c, the list before, the answer r, the list after
 pub record AudioRead (k : ℕ) (frame : List ℕ) (c : ℕ) (list : List ℤ) (r : AudioAnswer) (list′ : List ℤ) : Type 0 where

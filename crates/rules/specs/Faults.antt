@@ -10,18 +10,17 @@ use Rattle.base.specs.Pick.{pick}
 use Rattle.base.specs.Run.{run}
 use Rattle.rules.specs.declared.System.{System}
 use Rattle.rules.specs.declared.SystemNumber.{SystemNumber}
-use Rattle.rules.specs.declared.SystemNumber.the-variants.{Known, NoSystem}
 use Rattle.rules.specs.declared.Entry.{Entry}
 use Rattle.rules.specs.declared.BlockId.{BlockId}
 use Rattle.rules.specs.declared.IdAnswer.{IdAnswer}
 use Rattle.rules.specs.declared.IdAnswer.the-variants.{Named, Reserved, WrongLength}
 use Rattle.rules.specs.declared.Fault.{Fault}
-use Rattle.rules.specs.Systems.{sequencesOf}
+use Rattle.rules.specs.Systems.{sequencesOf, inSystem}
 use Rattle.rules.specs.Places.{codeOf, place, entryAt}
 use Rattle.rules.specs.Ids.{blockAnswer, idValues}
 use Rattle.rules.specs.Blocks.{sequenceAt, blockIn}
 
--- a named block where entry e of sequence q of DIF channel h stands: "12, 13, 14, 15: section, channel, Dseq, DBN not the place's"
+-- a named block where entry e of sequence q of DIF channel h stands; 12, 13, 14, 15: "section, channel, Dseq, DBN not the place's"
 unfoldable pub misnamed : BlockId → ℕ → ℕ → Entry → ℕ
 misnamed b h q e = firstOf (
     12 when not (eqb (codeOf (b .section)) (codeOf (e .section)))
@@ -77,5 +76,4 @@ unfoldable pub frameFaults : System → List ℕ → List Fault
 frameFaults y frame = run (channelFaults y frame) 4
 
 abbrev pub faultsIn : SystemNumber → List ℕ → List Fault
-faultsIn (Known y) frame = frameFaults y frame
-faultsIn NoSystem frame = []
+faultsIn s frame = inSystem [] (λ (y : System). frameFaults y frame) s

@@ -14,20 +14,20 @@ abbrev pub rateByte : System → ℕ
 rateByte y = rateOf y * 0x80 + 0x3F
 
 -- "APT, AP1, AP2, AP3 in bits 2-0, written 111."
-abbrev pub source : ℕ
-source = 7
+abbrev pub application : ℕ
+application = 7
 
--- "Bytes 5, 6, 7: bit 7 is TF1, TF2, TF3; .. 0 is written."
+-- "Bytes 5, 6, 7: bit 7 is TF1 .., TF2 .., TF3 ..; .. 0 is written."
 abbrev pub flagByte : ℕ
-flagByte = 0x78 + source
+flagByte = 0x78 + application
 
 -- bytes 3 to 79
 unfoldable pub headerBytes : System → List ℕ
-headerBytes y = rateByte y ∷ (0xF8 + source) ∷ flagByte ∷ flagByte ∷ flagByte ∷ replicate 72 0xFF
+headerBytes y = rateByte y ∷ (0xF8 + application) ∷ flagByte ∷ flagByte ∷ flagByte ∷ replicate 72 0xFF
 
 -- ---- what is judged
 
--- 21: a header's DSF agrees
+-- not 21: a header's DSF agrees
 abbrev pub dsfOk : System → List ℕ → Bool
 dsfOk y block = eqb (getD block 3 0 / 128) (rateOf y)
 

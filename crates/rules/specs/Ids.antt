@@ -80,6 +80,7 @@ fspOf h = 1 - h / 2 % 2
 abbrev pub byte0Of : BlockId → ℕ
 byte0Of b = codeOf (b .section) * 32 + 31
 
+-- a Dseq has four bits, a DBN eight
 abbrev pub byte1Of : BlockId → ℕ
 byte1Of b = b .dseq % 16 * 16 + fscOf (b .channel) * 8 + fspOf (b .channel) * 4 + 3
 
@@ -95,4 +96,4 @@ idOf h q section k = record { section = section; channel = h; dseq = q; dbn = re
 
 -- the ID of the block at place p of sequence q of DIF channel h
 unfoldable pub idAt : ℕ → ℕ → Place → BlockId
-idAt h q p = record { section = entryAt p .section; channel = h; dseq = q; dbn = entryAt p .number }
+idAt h q p = idOf h q (entryAt p .section) (entryAt p .number .0)

@@ -1,12 +1,13 @@
--- In the paper's order: the format, then a file a call, then the known places and the demands.
+-- In the paper's order: the format, then a file a call, then the known places and the demands. `Judging` and `Noting`
+-- are no rules of the paper: they serve the loops, and a reader of the promises can leave them out.
 pub mod Systems
 pub mod Places
 pub mod Ids
 pub mod Blocks
 pub mod Packs
 pub mod Header
-pub mod TimeCode
 pub mod Subcode
+pub mod TimeCode
 pub mod Vaux
 pub mod Aaux
 pub mod Samples

@@ -8,13 +8,11 @@ use lib.ListN.{length, drop}
 use Rattle.base.specs.Calls.{Refusal, firstOf, _when_}
 use Rattle.base.specs.Pick.{pick}
 use Rattle.rules.specs.declared.System.{System}
-use Rattle.rules.specs.declared.SystemNumber.{SystemNumber}
-use Rattle.rules.specs.declared.SystemNumber.the-variants.{Known, NoSystem}
 use Rattle.rules.specs.declared.Section.the-variants.{Video}
 use Rattle.rules.specs.declared.Slot.{Slot}
 use Rattle.rules.specs.declared.Carrier.{Carrier}
 use Rattle.rules.specs.declared.Carrier.the-variants.{In, NoSlot}
-use Rattle.rules.specs.Systems.{macroblocksOf, systemOf, isNoSystem, passes, rowsIn, frameBytes}
+use Rattle.rules.specs.Systems.{macroblocksOf, inSystem, systemOf, isNoSystem, passes, rowsIn, frameBytes}
 use Rattle.rules.specs.Places.{placeIn}
 use Rattle.rules.specs.Blocks.{blockAt}
 use Rattle.rules.specs.Picture.{carrierOf}
@@ -44,13 +42,9 @@ unfoldable pub carrierBytes : System → List ℕ → Carrier → List ℕ
 carrierBytes y frame (In s) = slotBytes y frame s
 carrierBytes y frame NoSlot = []
 
-unfoldable pub macroblockBytes : SystemNumber → List ℕ → ℕ → List ℕ
-macroblockBytes (Known y) frame b = carrierBytes y frame (carrierOf y b)
-macroblockBytes NoSystem frame b = []
-
 -- "the part empty exactly when the number is a refusal"
 unfoldable pub macroblockPart : ℕ → List ℕ → ℕ → List ℕ
-macroblockPart k frame b = pick (eqb (macroblockNumber k frame b) 0) (macroblockBytes (systemOf k) frame b) []
+macroblockPart k frame b = pick (eqb (macroblockNumber k frame b) 0) (inSystem [] (λ (y : System). carrierBytes y frame (carrierOf y b)) (systemOf k)) []
 
 pub record MacroblockNumbered (k : ℕ) (frame : List ℕ) (b r : ℕ) : Type 0 where
   pub answer : r ≡ macroblockNumber k frame b

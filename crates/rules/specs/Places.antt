@@ -22,7 +22,7 @@ codeOf Vaux = 2
 codeOf Audio = 3
 codeOf Video = 4
 
--- the section of a number below 5
+-- the section of a number below 5 (from 5 on the last stands in)
 unfoldable pub sectionOf : ℕ → Section
 sectionOf k = pick (eqb k 0) Header (pick (eqb k 1) Subcode (pick (eqb k 2) Vaux (pick (eqb k 3) Audio Video)))
 

@@ -6,8 +6,9 @@ use Prim.Native.Nat.{ℕ}
 use lib.Dec.{eqb, leb}
 use lib.ListN.{length}
 use Rattle.base.specs.Calls.{firstOf, _when_}
+use Rattle.base.specs.Pick.{pick}
 use Rattle.rules.specs.declared.IdAnswer.{IdAnswer}
-use Rattle.rules.specs.Ids.{sectionBits, idAnswer}
+use Rattle.rules.specs.Ids.{sectionBits, dseqBits, fscBit, fspBit, dbnByte, channelOf, idAnswer, IdValues, idRefusal, idValues}
 
 -- the refusals in their order: "an ID 3 bytes"; "5-7 reserved"
 unfoldable pub idNumber : List ℕ → ℕ
@@ -16,5 +17,13 @@ idNumber id = firstOf (
     ∷ 11 when leb 5 (sectionBits id)
     ∷ [])
 
+-- the paper's number and values: "A refusal answers its number, otherwise zeros"
+unfoldable pub idSays : List ℕ → IdValues
+idSays id =
+    pick (eqb (idNumber id) 0)
+    (record { number = 0; section = sectionBits id; channel = channelOf (fscBit id) (fspBit id); dseq = dseqBits id; dbn = dbnByte id })
+    (idRefusal (idNumber id))
+
 pub record IdRead (id : List ℕ) (r : IdAnswer) : Type 0 where
   pub answer : r ≡ idAnswer id
+  pub says : idValues r ≡ idSays id

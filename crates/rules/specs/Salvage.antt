@@ -10,10 +10,8 @@ use Rattle.base.specs.Calls.{firstOf, _when_}
 use Rattle.base.specs.Pick.{pick}
 use Rattle.base.specs.Run.{run, tab}
 use Rattle.rules.specs.declared.System.{System}
-use Rattle.rules.specs.declared.SystemNumber.{SystemNumber}
-use Rattle.rules.specs.declared.SystemNumber.the-variants.{Known, NoSystem}
 use Rattle.rules.specs.declared.Survey.{Survey}
-use Rattle.rules.specs.Systems.{positionsOf, systemOf, isNoSystem, positionsIn, frameBytes}
+use Rattle.rules.specs.Systems.{positionsOf, inSystem, systemOf, isNoSystem, positionsIn, frameBytes}
 use Rattle.rules.specs.Samples.{numberOf}
 use Rattle.rules.specs.Faults.{faultsIn}
 use Rattle.rules.specs.Survey.{Surveyed}
@@ -38,12 +36,8 @@ salvageNumber k frame size = firstOf (
 
 -- ---- the samples: "A refusal .. writes nothing."
 
-unfoldable pub salvagedFor : SystemNumber → List ℕ → List ℤ → List ℤ
-salvagedFor (Known y) frame samples = salvaged y frame
-salvagedFor NoSystem frame samples = samples
-
 unfoldable pub salvageLeft : ℕ → List ℕ → List ℤ → List ℤ
-salvageLeft k frame samples = pick (eqb (salvageNumber k frame (length samples)) 0) (salvagedFor (systemOf k) frame samples) samples
+salvageLeft k frame samples = pick (eqb (salvageNumber k frame (length samples)) 0) (inSystem samples (λ (y : System). salvaged y frame) (systemOf k)) samples
 
 -- system k, the frame, samples and list before, the answer r, samples and list after
 pub record Salvaged (k : ℕ) (frame : List ℕ) (samples : List ℤ) (list : List ℕ) (r : Survey) (samples′ : List ℤ) (list′ : List ℕ) : Type 0 where

@@ -59,7 +59,7 @@ bytesOf w = w / 256 ∷ w % 256 ∷ []
 abbrev pub wordAt : List ℕ → ℕ → ℕ
 wordAt block i = getD block i 0 * 256 + getD block (i + 1) 0
 
--- ---- what a number comes back as: itself, but -32,767 for -32,768
+-- ---- what a number in range comes back as: itself, but -32,767 for -32,768
 
 unfoldable pub backOf : ℤ → ℤ
 backOf z = pick (leZ z (negsuc 32767)) (negsuc 32766) z

@@ -10,7 +10,6 @@ use lib.ListN.{length, getD, take, drop, replicate}
 use Rattle.base.specs.Calls.{ExactlyOne}
 use Rattle.base.specs.Pick.{pick}
 use Rattle.rules.specs.declared.System.{System}
-use Rattle.rules.specs.declared.SystemNumber.the-variants.{Known}
 use Rattle.rules.specs.declared.Place.{Place}
 use Rattle.rules.specs.declared.IdAnswer.{IdAnswer}
 use Rattle.rules.specs.declared.Survey.{Survey}
@@ -18,7 +17,7 @@ use Rattle.rules.specs.declared.AudioAnswer.{AudioAnswer}
 use Rattle.rules.specs.declared.TimeAnswer.{TimeAnswer}
 use Rattle.rules.specs.declared.Slot.{Slot}
 use Rattle.rules.specs.declared.Carried.the-variants.{Macroblock}
-use Rattle.rules.specs.Systems.{sequencesOf, halfOf, positionsOf, macroblocksOf, systemOf}
+use Rattle.rules.specs.Systems.{sequencesOf, halfOf, positionsOf, macroblocksOf}
 use Rattle.rules.specs.Ids.{idValues, idRefusal}
 use Rattle.rules.specs.Blocks.{blockAt}
 use Rattle.rules.specs.Samples.{lost, numberOf, backOf}
@@ -31,11 +30,11 @@ use Rattle.rules.specs.Survey.{surveyNumber, sequenceNumber, refusal, Fr
 use Rattle.rules.specs.View.{viewNumber, ViewNumbered, Viewed}
 use Rattle.rules.specs.Check.{checkNumber, Checked}
 use Rattle.rules.specs.Reading.{soundBlock, soundNamed, readSample}
-use Rattle.rules.specs.Audio.{isAudio, audioNumber, AudioRead}
+use Rattle.rules.specs.Audio.{countFor, isAudio, audioNumber, AudioRead}
 use Rattle.rules.specs.Macroblock.{macroblockNumber, slotBytes, MacroblockNumbered, MacroblockRead}
-use Rattle.rules.specs.Time.{timeNumber, timeRefused, TimeRead}
+use Rattle.rules.specs.Time.{timeNumber, timeRefused, timeFound, TimeRead}
 use Rattle.rules.specs.Salvage.{salvageNumber, Salvaged}
-use Rattle.rules.specs.Written.{Lent, given, storedWord, writtenBlock}
+use Rattle.rules.specs.Written.{Lent, storedWord, writtenBlock}
 use Rattle.rules.specs.Write.{writeNumber, Wrote, Takes}
 
 -- ---- 1
@@ -76,16 +75,6 @@ pub record EveryCall : Type 0 where
 
 -- ---- 2
 
--- "Frames are .. written as Recommendation ITU-R BT.1620-1 lays down and document 01 sets out, for all four systems"
-pub record LaidOut (y : System) (l : Lent) (f : List ℕ) : Type 0 where
-  -- "block IDs, packs": each block is an ID and a payload
-  pub block : (h q p : ℕ) → h < 4 → q < sequencesOf y → p < 150 → blockAt y f h q p ≡ writtenBlock y l h q p
-  -- "the place of each audio sample", high byte first
-  pub high : (c t : ℕ) → isAudio c ≡ true → t < positionsOf y → getD (soundBlock y f c t) (byteOf (halfOf y) t) 0 ≡ storedWord l c t / 256
-  pub low : (c t : ℕ) → isAudio c ≡ true → t < positionsOf y → getD (soundBlock y f c t) (byteOf (halfOf y) t + 1) 0 ≡ storedWord l c t % 256
-  -- "and each compressed macroblock"
-  pub macroblock : (s : Slot) (b : ℕ) → carriedIn y s ≡ Macroblock b → slotBytes y f s ≡ take 77 (drop (77 * b) (l .macroblocks))
-
 -- what the strict reads answer of a frame: the check, audio channel c, macroblock b, the time code
 pub record Strict : Type 0 where
   pub check : ℕ
@@ -102,6 +91,28 @@ pub record StrictlyRead (k : ℕ) (f : List ℕ) (c : ℕ) (samples : List ℤ) 
   pub number : MacroblockNumbered k f b (o .number)
   pub part : MacroblockRead k f b (o .part)
   pub time : TimeRead k f (o .time)
+
+-- "Frames are read .. as Recommendation ITU-R BT.1620-1 lays down and document 01 sets out, for all four systems": any frame, where a read answers 0
+pub record ReadOut (y : System) (f : List ℕ) (c b : ℕ) (o : Strict) : Type 0 where
+  -- "packs, the place of each audio sample and each compressed macroblock"
+  pub count : o .audio .number ≡ 0 → o .audio .count ≡ countFor y f c
+  pub sample : o .audio .number ≡ 0 → (t : ℕ) → t < o .audio .count → getD (o .samples) t (pos 0) ≡ numberOf (readSample y f c t)
+  pub macroblock : o .number ≡ 0 → (s : Slot) → carriedIn y s ≡ Macroblock b → o .part ≡ slotBytes y f s
+  pub time : o .time .number ≡ 0 → o .time ≡ timeFound y f
+
+-- "Frames are .. written" so: the frame f that is made of l
+pub record LaidOut (y : System) (l : Lent) (f : List ℕ) : Type 0 where
+  -- "block IDs, packs": each block is an ID and a payload
+  pub block : (h q p : ℕ) → h < 4 → q < sequencesOf y → p < 150 → blockAt y f h q p ≡ writtenBlock y l h q p
+  -- "the place of each audio sample", high byte first
+  pub high : (c t : ℕ) → isAudio c ≡ true → t < positionsOf y → getD (soundBlock y f c t) (byteOf (halfOf y) t) 0 ≡ storedWord l c t / 256
+  pub low : (c t : ℕ) → isAudio c ≡ true → t < positionsOf y → getD (soundBlock y f c t) (byteOf (halfOf y) t + 1) 0 ≡ storedWord l c t % 256
+  -- "and each compressed macroblock"
+  pub macroblock : (s : Slot) (b : ℕ) → carriedIn y s ≡ Macroblock b → slotBytes y f s ≡ take 77 (drop (77 * b) (l .macroblocks))
+
+-- what was lent for position t of audio channel c: "eight times the one count for sound, also channel after channel"
+abbrev pub given : Lent → ℕ → ℕ → ℤ
+given l c t = getD (l .sound) ((c - 1) * l .count + t) (pos 0)
 
 -- "A frame from our writer reads back to the samples, macroblocks, time code and binary groups it was given"
 pub record ReadsBack (l : Lent) (c : ℕ) (samples : List ℤ) (b : ℕ) (o : Strict) : Type 0 where
@@ -152,9 +163,8 @@ pub record Salvages (y : System) (l : Lent) (f g list : List ℕ) (r : Survey) (
   pub sample : (c t : ℕ) → isAudio c ≡ true → t < positionsOf y → SampleSalvaged y l f g c t (getD samples ((c - 1) * positionsOf y + t) (pos 0))
   pub faults : Listed y g list r list′
 
--- ---- that the demands can be met, and what they stop
+-- ---- what may be lent for a system and a count: one level throughout, and time 0
 
--- what may be lent for a system and a count: one level throughout, and time 0
 abbrev pub tone : System → ℕ → ℕ → Lent
 tone y count level = record {
   count = count;
@@ -163,11 +173,3 @@ tone y count level = record {
   timeCode = 0x40 ∷ 0 ∷ 0 ∷ 0 ∷ [];
   binaryGroup = 0 ∷ 0 ∷ 0 ∷ 0 ∷ [];
 }
-
--- the writer makes a frame of l
-pub record Made (y : System) (l : Lent) : Type 0 where
-  pub k : ℕ
-  pub known : systemOf k ≡ Known y
-  pub frame : List ℕ
-  pub f : List ℕ
-  pub wrote : Wrote k l frame 0 f

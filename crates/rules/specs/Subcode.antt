@@ -38,7 +38,7 @@ subcodePack NoPack time group = noPack
 abbrev pub frByte : Bool → ℕ
 frByte first = pick first 0xFF 0x7F
 
--- the eight bytes of SSYB k: "ID0, ID1 (low nibble the SSYB number), FFh, a 5-byte pack"
+-- the eight bytes of SSYB k: "ID0 .., ID1 (low nibble the SSYB number), FFh, a 5-byte pack"
 unfoldable pub ssyb : Bool → Pack → Pack → ℕ → List ℕ
 ssyb first time group k = frByte first ∷ (0xF0 + k) ∷ 0xFF ∷ packBytes (subcodePack (kindOf first k) time group)
 

@@ -20,7 +20,7 @@ use Rattle.rules.specs.Records.{kept, after}
 abbrev pub outsideSequences : SystemNumber → ℕ → ℕ → Bool
 outsideSequences s h q = leb 4 h || leb (sequencesIn s) q
 
--- "survey use[s] 1, 2"; a fault list may have any length
+-- "Salvage and survey use 1, 2, 4": a survey is lent the fault list alone, which may have any length, so 4 is never due
 unfoldable pub surveyNumber : ℕ → ℕ → ℕ
 surveyNumber k size = firstOf (
     1 when isNoSystem (systemOf k)

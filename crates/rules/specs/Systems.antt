@@ -75,29 +75,26 @@ numberOf I50 = 1
 numberOf P60 = 2
 numberOf P50 = 3
 
+-- what is said of a system, and what stands in where there is none
+abbrev pub inSystem : {A : Type 0} → A → (System → A) → SystemNumber → A
+inSystem none of (Known y) = of y
+inSystem none of NoSystem = none
+
 abbrev pub isNoSystem : SystemNumber → Bool
-isNoSystem (Known y) = false
-isNoSystem NoSystem = true
+isNoSystem = inSystem true (λ (y : System). false)
 
--- no system has no sequences
 abbrev pub sequencesIn : SystemNumber → ℕ
-sequencesIn (Known y) = sequencesOf y
-sequencesIn NoSystem = 0
+sequencesIn = inSystem 0 sequencesOf
 
--- and no positions
 abbrev pub positionsIn : SystemNumber → ℕ
-positionsIn (Known y) = positionsOf y
-positionsIn NoSystem = 0
+positionsIn = inSystem 0 positionsOf
 
--- what a known system passes; no system passes nothing
 abbrev pub passes : (System → Bool) → SystemNumber → Bool
-passes test (Known y) = test y
-passes test NoSystem = false
+passes = inSystem false
 
 -- the rows of a call's refusal table that want a known system
 abbrev pub rowsIn : SystemNumber → (System → List Refusal) → List Refusal
-rowsIn (Known y) rows = rows y
-rowsIn NoSystem rows = []
+rowsIn s rows = inSystem [] rows s
 
 -- frame length: 48,000·n
 abbrev pub frameBytes : SystemNumber → ℕ

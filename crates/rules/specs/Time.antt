@@ -9,14 +9,12 @@ use Rattle.base.specs.Below.{below}
 use Rattle.base.specs.Calls.{Refusal, firstOf, _when_}
 use Rattle.base.specs.Pick.{pick}
 use Rattle.rules.specs.declared.System.{System}
-use Rattle.rules.specs.declared.SystemNumber.{SystemNumber}
-use Rattle.rules.specs.declared.SystemNumber.the-variants.{Known, NoSystem}
 use Rattle.rules.specs.declared.Section.the-variants.{Subcode}
 use Rattle.rules.specs.declared.Pack.{Pack}
 use Rattle.rules.specs.declared.SubcodePack.{SubcodePack}
 use Rattle.rules.specs.declared.SubcodePack.the-variants.{TimeCode, BinaryGroup, NoPack}
 use Rattle.rules.specs.declared.TimeAnswer.{TimeAnswer}
-use Rattle.rules.specs.Systems.{rateOf, systemOf, isNoSystem, rowsIn, frameBytes}
+use Rattle.rules.specs.Systems.{rateOf, inSystem, systemOf, isNoSystem, rowsIn, frameBytes}
 use Rattle.rules.specs.Places.{placeIn}
 use Rattle.rules.specs.Blocks.{sequenceAt, blockIn}
 use Rattle.rules.specs.TimeCode.{timeOk, groupOk}
@@ -83,12 +81,11 @@ fourBytes p = p .pc1 ∷ p .pc2 ∷ p .pc3 ∷ p .pc4 ∷ []
 abbrev pub timeRefused : ℕ → TimeAnswer
 timeRefused number = record { number = number; time = 0 ∷ 0 ∷ 0 ∷ 0 ∷ []; group = 0 ∷ 0 ∷ 0 ∷ 0 ∷ [] }
 
-unfoldable pub timeFound : SystemNumber → List ℕ → TimeAnswer
-timeFound (Known y) frame = record { number = 0; time = fourBytes (settled y (timeFirst y frame)); group = fourBytes (groupFirst y frame) }
-timeFound NoSystem frame = timeRefused 1
+unfoldable pub timeFound : System → List ℕ → TimeAnswer
+timeFound y frame = record { number = 0; time = fourBytes (settled y (timeFirst y frame)); group = fourBytes (groupFirst y frame) }
 
 unfoldable pub timeAnswer : ℕ → List ℕ → TimeAnswer
-timeAnswer k frame = pick (eqb (timeNumber k frame) 0) (timeFound (systemOf k) frame) (timeRefused (timeNumber k frame))
+timeAnswer k frame = pick (eqb (timeNumber k frame) 0) (inSystem (timeRefused 1) (λ (y : System). timeFound y frame) (systemOf k)) (timeRefused (timeNumber k frame))
 
 pub record TimeRead (k : ℕ) (frame : List ℕ) (r : TimeAnswer) : Type 0 where
   pub answer : r ≡ timeAnswer k frame

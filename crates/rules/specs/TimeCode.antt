@@ -9,16 +9,16 @@ use Rattle.rules.specs.declared.Pack.{Pack}
 use Rattle.rules.specs.Systems.{rateOf}
 use Rattle.rules.specs.Packs.{packOf}
 
--- "units in the low nibble"; tens in the bits above, of which `tens` values are told apart
+-- "units in the low nibble"; the tens in two or three bits above, which is four or eight values
 abbrev pub unitsIn : ℕ → ℕ
 unitsIn b = b % 16
 
 abbrev pub valueIn : ℕ → ℕ → ℕ
-valueIn tens b = b / 16 % tens * 10 + unitsIn b
+valueIn values b = b / 16 % values * 10 + unitsIn b
 
 -- "Units 0-9", and the value to `most`
 abbrev pub digitsOk : ℕ → ℕ → ℕ → Bool
-digitsOk tens most b = ltb (unitsIn b) 10 && leb (valueIn tens b) most
+digitsOk values most b = ltb (unitsIn b) 10 && leb (valueIn values b) most
 
 -- "frames to 29 or 24"
 abbrev pub lastFrame : System → ℕ
@@ -39,7 +39,7 @@ timePack bytes = packOf 0x13 bytes
 abbrev pub groupPack : List ℕ → Pack
 groupPack bytes = packOf 0x14 bytes
 
--- 26: a time code pack has its header and right digits
+-- not 26: a time code pack has its header and right digits
 abbrev pub timeOk : System → Pack → Bool
 timeOk y p = eqb (p .pc0) 0x13 && clockOk y p
 
@@ -56,9 +56,9 @@ timeTaken y p = bitTaken y p && clockOk y p
 
 -- ---- the same in clauses
 
-pub record Digits (tens most b : ℕ) : Type 0 where
+pub record Digits (values most b : ℕ) : Type 0 where
   pub units : unitsIn b < 10
-  pub value : valueIn tens b ≤ most
+  pub value : valueIn values b ≤ most
 
 pub record Clock (y : System) (p : Pack) : Type 0 where
   pub frames : Digits 4 (lastFrame y) (p .pc1)

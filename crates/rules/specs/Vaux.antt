@@ -39,7 +39,7 @@ vauxBytes y q k = vauxPacks y q k ++ 0xFF ∷ 0xFF ∷ []
 
 -- ---- what is judged
 
--- 22: "some VS disagrees in 60h, rate or STYPE"
+-- not 22: "some VS disagrees in 60h, rate or STYPE"
 abbrev pub vsOk : System → Pack → Bool
 vsOk y p = eqb (p .pc0) 0x60 && (eqb (p .pc3 / 32 % 2) (rateOf y) && eqb (p .pc3 % 32) (stypeOf y))
 

@@ -7,18 +7,17 @@ use lib.Dec.{eqb, leb}
 use lib.ListN.{length}
 use Rattle.base.specs.Calls.{firstOf, _when_}
 use Rattle.base.specs.Pick.{pick}
+use Rattle.rules.specs.declared.System.{System}
 use Rattle.rules.specs.declared.SystemNumber.{SystemNumber}
-use Rattle.rules.specs.declared.SystemNumber.the-variants.{Known, NoSystem}
 use Rattle.rules.specs.declared.Place.{Place}
-use Rattle.rules.specs.Systems.{systemOf, isNoSystem, frameBytes}
+use Rattle.rules.specs.Systems.{inSystem, systemOf, isNoSystem, frameBytes}
 use Rattle.rules.specs.Blocks.{blockAt}
 use Rattle.rules.specs.Faults.{faultAt}
 use Rattle.rules.specs.Survey.{outsideSequences}
 
 -- the block that is viewed
 abbrev pub viewedBlock : SystemNumber → List ℕ → ℕ → ℕ → ℕ → List ℕ
-viewedBlock (Known y) frame h q p = blockAt y frame h q p
-viewedBlock NoSystem frame h q p = []
+viewedBlock s frame h q p = inSystem [] (λ (y : System). blockAt y frame h q p) s
 
 unfoldable pub viewNumber : ℕ → List ℕ → ℕ → ℕ → Place → ℕ
 viewNumber k frame h q p = firstOf (

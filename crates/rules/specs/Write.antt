@@ -9,9 +9,7 @@ use lib.ListN.{length}
 use Rattle.base.specs.Calls.{firstOf, _when_}
 use Rattle.base.specs.Pick.{pick}
 use Rattle.rules.specs.declared.System.{System}
-use Rattle.rules.specs.declared.SystemNumber.{SystemNumber}
-use Rattle.rules.specs.declared.SystemNumber.the-variants.{Known, NoSystem}
-use Rattle.rules.specs.Systems.{sequencesOf, isCount, macroblocksOf, systemOf, isNoSystem, passes, frameBytes}
+use Rattle.rules.specs.Systems.{sequencesOf, isCount, macroblocksOf, inSystem, systemOf, isNoSystem, passes, frameBytes}
 use Rattle.rules.specs.TimeCode.{timePack, timeTaken}
 use Rattle.rules.specs.Samples.{allInRange}
 use Rattle.rules.specs.Written.{Lent, writtenFrame}
@@ -47,12 +45,8 @@ writeNumber k l size = firstOf (
 
 -- ---- the frame: "A refusal .. writes nothing."
 
-unfoldable pub frameFor : SystemNumber → Lent → List ℕ → List ℕ
-frameFor (Known y) l frame = writtenFrame y l
-frameFor NoSystem l frame = frame
-
 unfoldable pub writeLeft : ℕ → Lent → List ℕ → List ℕ
-writeLeft k l frame = pick (eqb (writeNumber k l (length frame)) 0) (frameFor (systemOf k) l frame) frame
+writeLeft k l frame = pick (eqb (writeNumber k l (length frame)) 0) (inSystem frame (λ (y : System). writtenFrame y l) (systemOf k)) frame
 
 -- system k, what is lent, the frame before, the answer r, the frame after
 pub record Wrote (k : ℕ) (l : Lent) (frame : List ℕ) (r : ℕ) (frame′ : List ℕ) : Type 0 where

@@ -35,13 +35,9 @@ pub record Lent : Type 0 where
 
 -- ---- sound: "Positions from the count on are written 0"
 
--- the number given for position t of audio channel c; sound is lent channel after channel
-abbrev pub given : Lent → ℕ → ℕ → ℤ
-given l c t = getD (l .sound) ((c - 1) * l .count + t) (pos 0)
-
--- the word of that position
+-- the word of position t of audio channel c; sound is lent channel after channel
 unfoldable pub storedWord : Lent → ℕ → ℕ → ℕ
-storedWord l c t = pick (ltb t (l .count)) (wordFor (given l c t)) 0
+storedWord l c t = pick (ltb t (l .count)) (wordFor (getD (l .sound) ((c - 1) * l .count + t) (pos 0))) 0
 
 -- the two bytes of word w of audio block a
 unfoldable pub wordBytes : System → Lent → ℕ → ℕ → ℕ → ℕ → List ℕ

@@ -70,7 +70,7 @@ pub struct Fault {
     pub fault: u32,
 }
 
-// What a survey answers.
+// What a survey answers, and salvage.
 pub struct Survey {
     pub number: u32,
     pub total: u32,
