@@ -1,0 +1,33 @@
+#!/usr/bin/perl
+# What each refused edit of the repository breaks, as rt ci or rt must-fail left it under target/must-fail: of an edit of the rules
+# the headlines of proofs/Demands that fall, and the laws whose own statement or proof fails; of an edit of code the contracts that
+# are not met. A line a edit, as a row of a table; an edit that breaks none of these is an error.
+use strict;
+use warnings;
+
+my $bad = 0;
+for my $edit (sort glob 'crates/*/must-fail/*.edit') {
+    my ($crate, $name) = $edit =~ m{^crates/([^/]+)/must-fail/(.+)\.edit$};
+    my $log = "target/must-fail/$crate/$name/.log";
+    open my $in, '<', $log or do { print STDERR "tests/fallen.pl: no $log\n"; $bad = 1; next };
+    my (@headlines, @laws, @contracts, %seen);
+    while (<$in>) {
+        if (m{/proofs/(\S+)\.antt:\d+:\d+: error: `([^`]+)`: (.*)}) {
+            my ($file, $law, $why) = ($1, $2, $3);
+            next if $seen{"$file $law"}++;
+            if ($file eq 'Demands') { push @headlines, $law }
+            elsif ($why !~ /was not admitted/) { push @laws, $law }
+        }
+        # a contract that is not met by the function's own body
+        push @contracts, $1 if /^fn (\S+): not proved$/;
+    }
+    close $in;
+    my $broken = $crate eq 'rules' ? \@laws : \@contracts;
+    if (!@headlines && !@$broken) {
+        print STDERR "tests/fallen.pl: $edit breaks no headline, law or contract\n";
+        $bad = 1;
+    }
+    my $list = sub { join ', ', map { "`$_`" } @_ };
+    printf "| %s `%s` | %s | %s |\n", $crate, $name, $list->(@headlines), $list->(@$broken);
+}
+exit $bad;
