@@ -22,7 +22,7 @@ use Rattle.rules.proofs.Check.{rows-fault, rows-21, rows-22, rows-0, check-1, c
 use Rattle.rules.proofs.Audio.{audio-23, audio-24, audio-25, audio-0, audio-1, audio-2, audio-3, audio-4, audio-checked, audio-rows}
 use Rattle.rules.proofs.Macroblock.{picture-23, picture-0, macroblock-1, macroblock-2, macroblock-3, macroblock-checked, macroblock-rows}
 use Rattle.rules.proofs.Time.{time-23, time-26, time-27, time-0, time-1, time-2, time-checked, time-rows}
-use Rattle.faults.specs.Asked.{firstOrLength}
+use Rattle.first.specs.Asked.{firstOrLength}
 
 -- ---- checked: f is the first fault, d and v what the two judgements say
 

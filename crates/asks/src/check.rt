@@ -14,7 +14,7 @@ pub(crate) fn checked(y: System, frame: &[u8]) -> u32
     requires { ⌜ length (now frame) ≡ 48000 * sequencesOf y ⌝ }
     ensures { λ r. ⌜ r ≡ firstOf (checkRows y (now (frame .entry))) ⌝ }
 {
-    let fault = faults::first_fault(y, frame);
+    let fault = first::first_fault(y, frame);
     let dsf = judges::every_sequence(y, frame, Test::Dsf);
     let vs = judges::every_sequence(y, frame, Test::Vs);
     if fault != 0 {

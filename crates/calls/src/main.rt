@@ -110,7 +110,7 @@ fn survey(system: u32, frame: &[u8], size: usize)
     requires { ⌜ size ≤ 8 ⌝ }
 {
     let mut list = [7u32; 8];
-    let s = faults::survey(system, frame, &mut list[0..size]);
+    let s = surveys::survey(system, frame, &mut list[0..size]);
     lines::start(b"survey");
     lines::field(s.number);
     lines::field(s.total);
@@ -120,7 +120,7 @@ fn survey(system: u32, frame: &[u8], size: usize)
 
 fn survey_sequence(system: u32, channel: u32, sequence: u32, part: &[u8]) {
     let mut list = [7u32; 8];
-    let s = faults::survey_sequence(system, channel, sequence, part, &mut list);
+    let s = surveys::survey_sequence(system, channel, sequence, part, &mut list);
     lines::start(b"sequence");
     lines::field(s.number);
     lines::field(s.total);
@@ -143,8 +143,8 @@ fn print_list(list: &[u32; 8]) {
 // A block view: its number, and the length of its part.
 fn view(system: u32, frame: &[u8], channel: u32, sequence: u32, place: u32) {
     lines::start(b"view");
-    lines::field(faults::view_number(system, frame, channel, sequence, Place(place)));
-    let part = faults::view(system, frame, channel, sequence, Place(place));
+    lines::field(views::view_number(system, frame, channel, sequence, Place(place)));
+    let part = views::view(system, frame, channel, sequence, Place(place));
     lines::field((part.len() % 65536) as u32);
     lines::end();
 }

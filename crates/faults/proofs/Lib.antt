@@ -1,4 +1,1 @@
 pub mod Naming
-pub mod Noting
-pub mod Clear
-pub mod Ways

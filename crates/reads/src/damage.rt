@@ -47,7 +47,7 @@ fn fill(
             return rescue::salvage(system, whole, &mut numbers[0..room], &mut list[0..size]);
         }
     }
-    faults::refused(99)
+    noting::refused(99)
 }
 
 // Its answer and the fault list, then the marks and the checksum.
@@ -137,9 +137,9 @@ fn damage(frame: &mut [u8]) {
 
 fn seen(frame: &[u8], list: &mut [u32], size: usize) -> Survey {
     if size <= list.len() {
-        return faults::survey(0, some_bytes(frame, 480000), &mut list[0..size]);
+        return surveys::survey(0, some_bytes(frame, 480000), &mut list[0..size]);
     }
-    faults::refused(99)
+    noting::refused(99)
 }
 
 // The survey's answer and its list.

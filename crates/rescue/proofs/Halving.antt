@@ -25,8 +25,8 @@ use Rattle.rules.proofs.Places.{place-in-below}
 use Rattle.rules.proofs.Blocks.{block-in-sequence, sequence-length}
 use Rattle.rules.proofs.Sound.{half-le, audio-below, row-sequence, sequence-below}
 use Rattle.rules.proofs.Halves.{half-start, rows-le}
-use Rattle.faults.specs.Asked.{nextFaults}
-use Rattle.faults.proofs.Clear.{next-inside}
+use Rattle.noting.specs.Asked.{nextFaults}
+use Rattle.noting.proofs.Next.{next-inside}
 use Rattle.rescue.specs.Taken.{heldWord, heldBlock, heldPart, heldSample, Between, samplesFit, samplesLeft, rowSequence, rowFaults, halfFaults}
 use Rattle.rescue.specs.Asked.{PartAsked, RowAsked, HalfAsked, HalfSalvaged}
 use Rattle.rescue.proofs.Between.{between-none, between-next, between-same, between-all}

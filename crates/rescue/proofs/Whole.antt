@@ -29,7 +29,7 @@ use Rattle.rules.proofs.Systems.{half-cases, positions-le}
 use Rattle.rules.proofs.Records.{noted-turn}
 use Rattle.rules.proofs.Halves.{faults-halves, halves-le}
 use Rattle.rules.proofs.Calls.{survey-done, survey-stopped}
-use Rattle.faults.specs.Asked.{tallied}
+use Rattle.noting.specs.Asked.{tallied}
 use Rattle.rescue.specs.Taken.{heldSample, halfSamples, halfFaults}
 use Rattle.rescue.specs.Asked.{HalfAsked, HalfSalvaged, FrameAsked, FrameSalvaged}
 use Rattle.rescue.proofs.Between.{between-all}

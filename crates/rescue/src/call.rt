@@ -29,17 +29,17 @@ pub fn salvage(system: u32, frame: &[u8], samples: &mut [i32], list: &mut [u32])
     ensures { λ r. ⌜ Salvaged system (now (frame .entry)) (now (samples .entry)) (now (list .entry)) r (now (samples .exit)) (now (list .exit)) ⌝ }
 {
     let SystemNumber::Known(y) = layout::system_of(system) else {
-        return faults::refused(1);
+        return noting::refused(1);
     };
     let whole = frame.len() == layout::frame_bytes(y);
     let room = samples.len() == 8 * (layout::positions(y) as usize);
     if !whole {
-        return faults::refused(2);
+        return noting::refused(2);
     }
     if !room {
-        return faults::refused(4);
+        return noting::refused(4);
     }
     let size = list.len();
     let total = salvage_all(frame, y, samples, list);
-    faults::answered(total, size)
+    noting::answered(total, size)
 }

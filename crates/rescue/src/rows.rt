@@ -46,7 +46,7 @@ fn survey_row(frame: &[u8], y: System, i: u32, r: u32, list: &mut [u32], t: u32)
     ensures { λ total. ⌜ Noted (now (list .entry)) t (rowFaults y (now (frame .entry)) i r) (now (list .exit)) total ⌝ }
 {
     let part = row_part(frame, y, i, r);
-    faults::survey_next(y, i / 2, row_sequence(y, i, r), part, list, t)
+    noting::survey_next(y, i / 2, row_sequence(y, i, r), part, list, t)
 }
 
 // The samples of an audio channel.

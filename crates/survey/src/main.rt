@@ -17,7 +17,7 @@ fn add(system: u32, h: u32, q: u32, part: &[u8], list: &mut [u32], t: Tally) -> 
     ensures { λ r. ⌜ Added system h q (now (part .entry)) (now (list .entry)) t (now (list .exit)) r ⌝ }
 {
     let at = (4 * t.kept) as usize;
-    let s = faults::survey_sequence(system, h, q, part, &mut list[at..]);
+    let s = surveys::survey_sequence(system, h, q, part, &mut list[at..]);
     Tally {
         total: t.total + s.total,
         kept: t.kept + s.kept,

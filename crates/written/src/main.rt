@@ -118,8 +118,8 @@ fn block(system: u32, frame: &[u8], size: usize, h: u32, q: u32, p: u32) {
     lines::field(h);
     lines::field(q);
     lines::field(p);
-    lines::field(faults::view_number(system, whole, h, q, Place(p)));
-    print_bytes(faults::view(system, whole, h, q, Place(p)));
+    lines::field(views::view_number(system, whole, h, q, Place(p)));
+    print_bytes(views::view(system, whole, h, q, Place(p)));
     lines::end();
 }
 
@@ -142,7 +142,7 @@ fn print_bytes(part: &[u8]) {
 
 // The sample of audio channel 1, position t, at its known place: sequence, audio block, byte.
 fn sample(system: u32, frame: &[u8], size: usize, t: u32, q: u32, a: u32, at: usize) {
-    let part = faults::view(
+    let part = views::view(
         system,
         some_bytes(frame, size),
         0,

@@ -1,0 +1,55 @@
+-- The ways out of `survey_next`: o is what `outside` answers. Assumes nothing.
+use mathlib.Core.Path.{_≡_, refl, sym, ap, _∙_}
+use mathlib.Core.List.{List, []}
+use mathlib.Core.Bool.{Bool, true, false, not, _&&_}
+use Prim.Native.Nat.{ℕ, _≤_, _<_}
+use native.Mathlib.Omega.{arith}
+use lib.Dec.{eqb, ltb}
+use lib.ListN.{length}
+use borrow.Author.Tests.{eq-eqb, ne-eqb, lt-leb, lt-ltb, le-ltb}
+use Rattle.base.proofs.Picks.{pick-true, pick-false}
+use Rattle.rules.specs.declared.System.{System}
+use Rattle.rules.specs.declared.SystemNumber.the-variants.{Known}
+use Rattle.rules.specs.Systems.{sequencesOf}
+use Rattle.rules.specs.Faults.{sequenceFaults}
+use Rattle.rules.specs.Noting.{Noted}
+use Rattle.rules.specs.Records.{after}
+use Rattle.rules.specs.Survey.{outsideSequences}
+use Rattle.rules.proofs.Systems.{sequences-le}
+use Rattle.rules.proofs.Records.{noted-none}
+use Rattle.rules.proofs.Calls.{inside-means}
+use Rattle.noting.specs.Asked.{PartAsked, nextFaults}
+
+module _ (y : System) (h q : ℕ) (part list : List ℕ) (t : ℕ) (o : Bool) (eo : o ≡ outsideSequences (Known y) h q) where
+  none-next : (not (outsideSequences (Known y) h q) && (eqb (length part) 12000 && ltb t 8000)) ≡ false → Noted list t (nextFaults y h q part t) list t
+  unfolding nextFaults
+  none-next e = rw (pick-false (sequenceFaults part h q) [] e) (noted-none list t)
+
+  pub next-outside : o ≡ true → Noted list t (nextFaults y h q part t) list t
+  next-outside e = none-next (ap (λ (b : Bool). not b && (eqb (length part) 12000 && ltb t 8000)) (sym eo ∙ e))
+
+  module _ (f : o ≡ false) where
+    inside : not (outsideSequences (Known y) h q) ≡ true
+    inside = ap not (sym eo ∙ f)
+
+    pub next-wrong-length : (length part ≡ 12000 → ⊥) → Noted list t (nextFaults y h q part t) list t
+    next-wrong-length d = none-next (rw (inside, ne-eqb _ _ d) refl)
+
+    module _ (e : length part ≡ 12000) where
+      pub next-full : 8000 ≤ t → Noted list t (nextFaults y h q part t) list t
+      next-full l = none-next (rw (inside, eq-eqb _ _ e, le-ltb t 8000 l) refl)
+
+      pub next-surveyed : t < 8000 → (list′ : List ℕ) (r : ℕ) → Noted list t (sequenceFaults part h q) list′ r → Noted list t (nextFaults y h q part t) list′ r
+      unfolding nextFaults
+      next-surveyed l list′ r n = rw (inside, eq-eqb _ _ e, lt-ltb t 8000 l) (rw (pick-true (sequenceFaults part h q) [] refl) n)
+
+-- a sequence of the system, after few faults
+pub next-inside : (y : System) (h q : ℕ) (part : List ℕ) (t : ℕ) → h < 4 → q < sequencesOf y → length part ≡ 12000 → t < 8000 → nextFaults y h q part t ≡ sequenceFaults part h q
+unfolding nextFaults
+next-inside y h q part t hh hq e l = rw (lt-leb _ _ hh, lt-leb _ _ hq, eq-eqb _ _ e, lt-ltb t 8000 l) (pick-true _ _ refl)
+
+-- what the survey of the sequence asks
+pub next-asked : (y : System) (h q : ℕ) (part : List ℕ) (t : ℕ) (o : Bool) → o ≡ outsideSequences (Known y) h q → o ≡ false → length part ≡ 12000 → t < 8000 → PartAsked part h q t
+next-asked y h q part t o eo f e l =
+    let i = inside-means y h q (sym eo ∙ f) in
+    record { whole = e; sequence = record { channel = i .0; sequence = omega (arith, i .1, sequences-le y) }; few = l }

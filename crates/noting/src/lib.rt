@@ -1,0 +1,7 @@
+// The faults of one sequence, noted in a lent list behind those that came before.
+mod list;
+mod sequence;
+
+pub use list::answered;
+pub use list::refused;
+pub use sequence::survey_next;

@@ -1,0 +1,7 @@
+// Which blocks do not name their place: the survey of a frame and of a sequence.
+mod frame;
+mod sequence;
+
+pub use frame::survey;
+pub use frame::survey_known;
+pub use sequence::survey_sequence;

@@ -1,0 +1,94 @@
+-- What a start is, and the ways out of the public calls. s is what the code's `system_of` answers, n the frame's bytes. Assumes nothing.
+use mathlib.Core.Path.{_≡_, refl, sym, _∙_}
+use mathlib.Core.List.{List, []}
+use mathlib.Core.Bool.{Bool, true, false, not, _||_}
+use Prim.Native.Nat.{ℕ, _+_, _*_, _≤_, _-_}
+use native.Mathlib.Omega.{arith}
+use lib.Dec.{eqb, leb}
+use lib.ListN.{length, take, drop}
+use borrow.Author.Tests.{eqb-true, leb-false, eqb-false, not-true, not-false}
+use Rattle.base.proofs.Parts.{range-part}
+use Rattle.base.proofs.Picks.{neither}
+use Rattle.rules.specs.declared.System.{System}
+use Rattle.rules.specs.declared.Place.{Place}
+use Rattle.rules.specs.declared.SystemNumber.the-variants.{Known, NoSystem}
+use Rattle.rules.specs.declared.SystemNumber.{SystemNumber}
+use Rattle.rules.specs.Systems.{sequencesOf, systemOf}
+use Rattle.rules.specs.Places.{place}
+use Rattle.rules.specs.Blocks.{blockAt}
+use Rattle.rules.specs.Faults.{faultAt}
+use Rattle.rules.specs.Survey.{outsideSequences}
+use Rattle.rules.specs.View.{viewNumber, ViewNumbered, Viewed}
+use Rattle.rules.proofs.Systems.{sequences-le}
+use Rattle.rules.proofs.Blocks.{start-within}
+use Rattle.rules.proofs.Calls.{inside-means, view-1, view-2, view-3, view-fault, view-zero, view-refused, view-taken}
+use Rattle.views.specs.Asked.{InFrame, StartIs}
+
+-- ---- block_start
+
+pub start-is : (y : System) (h q p n : ℕ) → InFrame y h q p → n ≡ sequencesOf y → StartIs y h q p (((n * h + q) * 150 + p) * 80)
+start-is y h q p n i e =
+    record {
+      is = rw e refl;
+      within = rw e (start-within y h q p (i .channel) (i .sequence) (i .place));
+      small = rw e (omega (arith, start-within y h q p (i .channel) (i .sequence) (i .place), sequences-le y));
+    }
+
+-- ---- view_number and view
+
+module _ (k : ℕ) (frame : List ℕ) (h q : ℕ) (p : Place) (s : SystemNumber) (es : s ≡ systemOf k) where
+  pub view-no-system : s ≡ NoSystem → ViewNumbered k frame h q p 1
+  view-no-system e = record { answer = sym (view-1 k frame h q p (sym es ∙ e)) }
+
+  pub part-no-system : s ≡ NoSystem → Viewed k frame h q p []
+  part-no-system e = record { answer = sym (view-refused k frame h q p (λ z. omega (arith, z, view-1 k frame h q p (sym es ∙ e)))) }
+
+  module _ (y : System) (e : s ≡ Known y) where
+    known : systemOf k ≡ Known y
+    known = sym es ∙ e
+
+    module _ (n : ℕ) (en : n ≡ 48000 * sequencesOf y) where
+      pub view-wrong-length : not (eqb (length frame) n) ≡ true → ViewNumbered k frame h q p 2
+      view-wrong-length d = record { answer = sym (view-2 k frame h q p y known (λ z. eqb-false _ _ (not-true _ d) (z ∙ sym en))) }
+
+      module _ (el : not (eqb (length frame) n) ≡ false) where
+        whole : length frame ≡ 48000 * sequencesOf y
+        whole = eqb-true _ _ (not-false _ el) ∙ en
+
+        pub view-within : (at : ℕ) → StartIs y h q (p .0) at → at + 80 ≤ length frame
+        view-within at st = omega (arith, st .within, whole)
+
+        module _ (o : Bool) (eo : o ≡ outsideSequences (Known y) h q) where
+          pub view-outside : (o || leb 150 (p .0)) ≡ true → ViewNumbered k frame h q p 3
+          view-outside t = record { answer = sym (view-3 k frame h q p y known whole (rw eo at t)) }
+
+          pub view-at : (o || leb 150 (p .0)) ≡ false → (at r : ℕ) → StartIs y h q (p .0) at → r ≡ faultAt (take (at + 80 - at) (drop at frame)) h q (p .0) → ViewNumbered k frame h q p r
+          unfolding blockAt
+          view-at f at r st er =
+              record { answer = er ∙ rw (range-part at 80 frame, st .is) refl ∙ sym (view-fault k frame h q p y known whole (rw eo at f)) }
+
+    -- r is the number
+    module _ (r : ℕ) (er : ViewNumbered k frame h q p r) where
+      pub part-refused : (r ≡ 0 → ⊥) → Viewed k frame h q p []
+      part-refused d = record { answer = sym (view-refused k frame h q p (λ z. d (er .answer ∙ z))) }
+
+      module _ (z : r ≡ 0) where
+        zero : viewNumber k frame h q p ≡ 0
+        zero = sym (er .answer) ∙ z
+
+        pub part-in : InFrame y h q (p .0)
+        part-in = let w = view-zero k frame h q p y known zero in record { channel = w .1; sequence = w .2; place = w .3 }
+
+        pub part-within : (at : ℕ) → StartIs y h q (p .0) at → at + 80 ≤ length frame
+        part-within at st = omega (arith, st .within, view-zero k frame h q p y known zero .0)
+
+        pub part-viewed : (at : ℕ) → StartIs y h q (p .0) at → Viewed k frame h q p (take (at + 80 - at) (drop at frame))
+        unfolding blockAt
+        part-viewed at st = record { answer = rw (range-part at 80 frame, st .is) refl ∙ sym (view-taken k frame h q p y known zero) }
+
+-- a place that is not outside is in the frame
+pub view-in : (y : System) (h q : ℕ) (p : Place) (o : Bool) → o ≡ outsideSequences (Known y) h q → (o || leb 150 (p .0)) ≡ false → InFrame y h q (p .0)
+view-in y h q p o eo f =
+    let both = neither o (leb 150 (p .0)) f in
+    let i = inside-means y h q (sym eo ∙ both .0) in
+    record { channel = i .0; sequence = i .1; place = leb-false _ _ (both .1) }

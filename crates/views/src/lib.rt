@@ -1,0 +1,52 @@
+// The view of one block: its number by one call, its bytes as a part of the frame by another.
+ghost use Rattle.rules.specs.View.{ViewNumbered, Viewed};
+ghost use Rattle.views.specs.Asked.{InFrame, StartIs};
+use layout::BLOCK;
+use layout::PLACES;
+use rules::Place;
+use rules::System;
+use rules::SystemNumber;
+
+// Where a block starts.
+fn block_start(y: System, h: u32, q: u32, p: Place) -> usize
+    requires { ⌜ InFrame y h q (p .0) ⌝ }
+    ensures { λ r. ⌜ StartIs y h q (p .0) r ⌝ }
+{
+    let place = p.0;
+    let n = layout::sequences(y);
+    (((n * h + q) * PLACES + place) as usize) * BLOCK
+}
+
+// The number of a block view. Refusals: 1, 2, 3 and the block's own 11 to 15.
+pub fn view_number(system: u32, frame: &[u8], channel: u32, sequence: u32, place: Place) -> u32
+    ensures { λ r. ⌜ ViewNumbered system (now (frame .entry)) channel sequence place r ⌝ }
+{
+    let SystemNumber::Known(y) = layout::system_of(system) else {
+        return 1;
+    };
+    let p = place.0;
+    let misfit = frame.len() != layout::frame_bytes(y);
+    let out = faults::outside(y, channel, sequence) | (PLACES <= p);
+    if misfit {
+        return 2;
+    }
+    if out {
+        return 3;
+    }
+    let at = block_start(y, channel, sequence, place);
+    faults::fault_at(&frame[at..at + BLOCK], channel, sequence, place)
+}
+
+// The 80 bytes of a block, a part of the frame; none where its number is a refusal.
+pub fn view(system: u32, frame: &[u8], channel: u32, sequence: u32, place: Place) -> &[u8]
+    ensures { λ r. ⌜ Viewed system (now (frame .entry)) channel sequence place (now r) ⌝ }
+{
+    let SystemNumber::Known(y) = layout::system_of(system) else {
+        return &frame[0..0];
+    };
+    if view_number(system, frame, channel, sequence, place) != 0 {
+        return &frame[0..0];
+    }
+    let at = block_start(y, channel, sequence, place);
+    &frame[at..at + BLOCK]
+}
