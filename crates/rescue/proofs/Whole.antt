@@ -20,11 +20,11 @@ use Rattle.rules.specs.declared.System.{System}
 use Rattle.rules.specs.declared.SystemNumber.{SystemNumber}
 use Rattle.rules.specs.declared.SystemNumber.the-variants.{Known, NoSystem}
 use Rattle.rules.specs.declared.Survey.{Survey}
-use Rattle.rules.specs.Systems.{sequencesOf, halfOf, positionsOf, systemOf}
+use Rattle.rules.specs.Systems.{sequencesOf, halfOf, positionsOf, inSystem, systemOf}
 use Rattle.rules.specs.Faults.{frameFaults, faultsIn}
 use Rattle.rules.specs.Noting.{Noted}
 use Rattle.rules.specs.Survey.{refusal}
-use Rattle.rules.specs.Salvage.{salvagedChannel, salvaged, salvageNumber, salvagedFor, salvageLeft, Salvaged}
+use Rattle.rules.specs.Salvage.{salvagedChannel, salvaged, salvageNumber, salvageLeft, Salvaged}
 use Rattle.rules.proofs.Systems.{half-cases, positions-le}
 use Rattle.rules.proofs.Records.{noted-turn}
 use Rattle.rules.proofs.Halves.{faults-halves, halves-le}
@@ -135,10 +135,10 @@ module _ (k : ℕ) (s : SystemNumber) (es : s ≡ systemOf k) (frame : List ℕ)
 
         pub salvage-done : (samples′ : List ℤ) (list′ : List ℕ) (t : ℕ) (r : Survey) → FrameSalvaged y frame samples′ list list′ t → r ≡ tallied t (length list)
             → Salvaged k frame samples list r samples′ list′
-        unfolding salvageLeft salvagedFor
+        unfolding salvageLeft
         salvage-done samples′ list′ t r p er =
             let all : frameFaults y frame ≡ faultsIn (systemOf k) frame = rw known refl in
-            let sound : salvaged y frame ≡ salvagedFor (systemOf k) frame samples = rw known refl in
+            let sound : salvaged y frame ≡ inSystem samples (λ (x : System). salvaged x frame) (systemOf k) = rw known refl in
             record {
               survey = rw er (survey-done _ _ list list′ t _ taken (rw all at (p .noted)) refl);
               left = p .sound ∙ sound ∙ sym (pick-true _ _ (eq-eqb _ 0 taken));
