@@ -11,7 +11,7 @@ use Rattle.rules.specs.declared.Carried.{Carried}
 use Rattle.rules.specs.declared.Carried.the-variants.{Macroblock, Nothing}
 use Rattle.rules.specs.declared.Carrier.{Carrier}
 use Rattle.rules.specs.declared.Carrier.the-variants.{In, NoSlot}
-use Rattle.rules.specs.Picture.{slot, stepOf, columnOf, macroblock, edgeNumber, tenCarries, elevenCarries, within, rowsOf, carriedIn, unitAt, slotAt, tenTurn, edgeSlot, tenFound, elevenFound, carrierOf}
+use Rattle.rules.specs.Picture.{slot, stepOf, columnOf, macroblock, edgeNumber, tenCarries, elevenCarries, within, carriesOf, carriedIn, unitAt, slotAt, tenTurn, edgeSlot, tenFound, elevenFound, carrierOf}
 use Rattle.picture.specs.Ruled.{Ruled}
 
 -- ---- what a slot carries: s and c are the step and the column of v's unit, b the number
@@ -42,13 +42,13 @@ pub eleven-nothing : (h q v : ℕ) → 11 ≤ q → (q ≡ 11 → ⊥) → Nothi
 unfolding elevenCarries pick
 eleven-nothing h q v hq nq = rw (le-ltb q 11 hq, ne-eqb q 11 nq) refl
 
-pub eleven-carried : (y : System) (h q v : ℕ) (t : Bool) (r : Carried) → Ruled y t → t ≡ true → r ≡ elevenCarries h q v → r ≡ rowsOf y h q v
+pub eleven-carried : (y : System) (h q v : ℕ) (t : Bool) (r : Carried) → Ruled y t → t ≡ true → r ≡ elevenCarries h q v → r ≡ carriesOf y h q v
 eleven-carried y h q v t r k e er = er ∙ sym (ap (λ (f : ℕ → ℕ → ℕ → Carried). f h q v) (k .carries ∙ pick-true _ _ e))
 
-pub ten-carried : (y : System) (h q v : ℕ) (t : Bool) (r : Carried) → Ruled y t → t ≡ false → r ≡ tenCarries h q v → r ≡ rowsOf y h q v
+pub ten-carried : (y : System) (h q v : ℕ) (t : Bool) (r : Carried) → Ruled y t → t ≡ false → r ≡ tenCarries h q v → r ≡ carriesOf y h q v
 ten-carried y h q v t r k e er = er ∙ sym (ap (λ (f : ℕ → ℕ → ℕ → Carried). f h q v) (k .carries ∙ pick-false _ _ e))
 
-pub inside : (y : System) (h q v : ℕ) (r : Carried) → h < 4 → v < 135 → r ≡ rowsOf y h q v → r ≡ carriedIn y (slot h q v)
+pub inside : (y : System) (h q v : ℕ) (r : Carried) → h < 4 → v < 135 → r ≡ carriesOf y h q v → r ≡ carriedIn y (slot h q v)
 unfolding within pick
 inside y h q v r lh lv e = e ∙ rw (lt-ltb h 4 lh, lt-ltb v 135 lv) refl
 

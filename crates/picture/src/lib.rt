@@ -1,7 +1,7 @@
 // Picture slots: the macroblock of a slot, and the slot of a macroblock.
 ghost use mathlib.Core.Path.{_≡_};
 ghost use Prim.Native.Nat.{_<_};
-ghost use Rattle.rules.specs.Picture.{slot, stepOf, columnOf, macroblock, tenCarries, elevenCarries, rowsOf, carriedIn, unitAt, slotAt, tenFound, elevenFound, carrierOf};
+ghost use Rattle.rules.specs.Picture.{slot, stepOf, columnOf, macroblock, tenCarries, elevenCarries, carriesOf, carriedIn, unitAt, slotAt, tenFound, elevenFound, carrierOf};
 ghost use Rattle.picture.specs.Ruled.{Ruled};
 use rules::BlockNumber;
 use rules::Carried;
@@ -105,7 +105,7 @@ fn eleven_rows(y: System) -> bool
 
 fn rows(y: System, h: u32, q: u32, v: u32) -> Carried
     requires { ⌜ (h < 4) × (v < 135) ⌝ }
-    ensures { λ r. ⌜ r ≡ rowsOf y h q v ⌝ }
+    ensures { λ r. ⌜ r ≡ carriesOf y h q v ⌝ }
 {
     if eleven_rows(y) {
         return eleven_carries(h, q, v);

@@ -16,7 +16,7 @@ use Rattle.rules.specs.declared.System.{System}
 use Rattle.rules.specs.declared.Section.the-variants.{Audio}
 use Rattle.rules.specs.Systems.{sequencesOf, halfOf, positionsOf}
 use Rattle.rules.specs.Blocks.{sequenceAt}
-use Rattle.rules.specs.Sound.{difOf, halfAt, rowOf, sequenceOf, audioOf, placeOf, byteOf, rowAt}
+use Rattle.rules.specs.Sound.{difOf, halfAt, rowOf, sequenceOf, audioOf, soundPlace, byteOf, rowAt}
 use Rattle.rules.specs.Faults.{names}
 use Rattle.rules.specs.Noting.{Noted}
 use Rattle.rules.specs.Reading.{readSample, salvagedSample}
@@ -38,8 +38,8 @@ held-sample : (y : System) (frame : List ℕ) (c t : ℕ)
 unfolding heldPart heldBlock salvagedSample readSample
 held-sample y frame c t =
     let s = halfOf y in
-    ap (λ (b : List ℕ). heldWord (names b (difOf c) (sequenceOf s c t) (placeOf s t)) b (byteOf s t))
-    (block-in-sequence y frame (difOf c) (sequenceOf s c t) (placeOf s t) (place-in-below Audio (audioOf s t) (audio-below s (half-cases y) t)))
+    ap (λ (b : List ℕ). heldWord (names b (difOf c) (sequenceOf s c t) (soundPlace s t)) b (byteOf s t))
+    (block-in-sequence y frame (difOf c) (sequenceOf s c t) (soundPlace s t) (place-in-below Audio (audioOf s t) (audio-below s (half-cases y) t)))
 
 -- ---- row_part and row_sequence: m is what `half` answers
 

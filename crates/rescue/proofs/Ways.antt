@@ -22,7 +22,7 @@ use Rattle.rules.specs.Places.{block}
 use Rattle.rules.specs.Ids.{blockAnswer}
 use Rattle.rules.specs.Blocks.{blockIn}
 use Rattle.rules.specs.Samples.{numberOf, sampleOf}
-use Rattle.rules.specs.Sound.{rowOf, audioOf, placeOf, wordNumber, rowAt, firstAt, sampleAt}
+use Rattle.rules.specs.Sound.{rowOf, audioOf, soundPlace, wordNumber, rowAt, firstAt, sampleAt}
 use Rattle.rules.specs.Faults.{faultOf, faultAt, names}
 use Rattle.rules.proofs.Systems.{half-cases, positions-half}
 use Rattle.rules.proofs.Places.{entry-place-in}
@@ -77,7 +77,7 @@ module _ (y : System) (bytes : List ℕ) (q a : ℕ) (before : List ℤ) (asked 
 
   -- `named` is the answer whether the block names its place
   module _ (h : ℕ) (named : Bool) (en : named ≡ eqb (faultOf (blockAnswer bytes) h q (block Audio a)) 0) where
-    named-there : (t : ℕ) → audioOf (halfOf y) t ≡ a → named ≡ names bytes h q (placeOf (halfOf y) t)
+    named-there : (t : ℕ) → audioOf (halfOf y) t ≡ a → named ≡ names bytes h q (soundPlace (halfOf y) t)
     unfolding faultAt
     named-there t e = en ∙ rw (e, entry-place-in Audio a (asked .audio)) refl
 

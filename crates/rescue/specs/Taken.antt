@@ -15,7 +15,7 @@ use Rattle.rules.specs.declared.Sample.the-variants.{Lost}
 use Rattle.rules.specs.Systems.{sequencesOf, halfOf, positionsOf}
 use Rattle.rules.specs.Blocks.{blockIn}
 use Rattle.rules.specs.Samples.{numberOf, sampleOf, wordAt}
-use Rattle.rules.specs.Sound.{difOf, halfAt, rowOf, audioOf, placeOf, byteOf}
+use Rattle.rules.specs.Sound.{difOf, halfAt, rowOf, audioOf, soundPlace, byteOf}
 use Rattle.rules.specs.Faults.{names, partFaults}
 use Rattle.rules.specs.Audio.{isAudio}
 use Rattle.rules.specs.Reading.{salvagedSample}
@@ -29,11 +29,11 @@ heldWord named block i = numberOf (pick named (sampleOf (wordAt block i)) Lost)
 
 -- sample t of its block, which stands in sequence q of DIF channel h
 unfoldable pub heldBlock : ℕ → List ℕ → ℕ → ℕ → ℕ → ℤ
-heldBlock s block h q t = heldWord (names block h q (placeOf s t)) block (byteOf s t)
+heldBlock s block h q t = heldWord (names block h q (soundPlace s t)) block (byteOf s t)
 
 -- sample t of its sequence
 unfoldable pub heldPart : ℕ → List ℕ → ℕ → ℕ → ℕ → ℤ
-heldPart s part h q t = heldBlock s (blockIn part (placeOf s t)) h q t
+heldPart s part h q t = heldBlock s (blockIn part (soundPlace s t)) h q t
 
 -- sample t of audio channel c
 abbrev pub heldSample : System → List ℕ → ℕ → ℕ → ℤ

@@ -19,7 +19,7 @@ use Rattle.rules.specs.declared.Carried.the-variants.{Macroblock, Nothin
 use Rattle.rules.specs.declared.Carrier.{Carrier}
 use Rattle.rules.specs.declared.Carrier.the-variants.{In, NoSlot}
 use Rattle.rules.specs.Systems.{sequencesOf, macroblocksOf}
-use Rattle.rules.specs.Picture.{slot, tenCarries, elevenCarries, within, rowsOf, carriedIn, tenFound, elevenFound, carrierOf, carriedBy}
+use Rattle.rules.specs.Picture.{slot, tenCarries, elevenCarries, within, carriesOf, carriedIn, tenFound, elevenFound, carrierOf, carriedBy}
 use Rattle.rules.specs.Rows.{meets, rowsAgree, table22, table23, table24, printedRows}
 
 -- ---- carriedIn: the printed rows
@@ -136,9 +136,9 @@ eleven-sequence h q v b e = eleven-either (ltb q 11) q _ _ b refl e
 
 -- what carries a macroblock is a slot of the system
 pub carried-inside : (y : System) (s : Slot) (b : ℕ) → carriedIn y s ≡ Macroblock b → Inside y s
-carried-inside y s b e = let w = within-carried (rowsOf y) s b e in record { channel = w .0; sequence = by-system y (w .2); video = w .1 }
+carried-inside y s b e = let w = within-carried (carriesOf y) s b e in record { channel = w .0; sequence = by-system y (w .2); video = w .1 }
   where
-    by-system : (y : System) → rowsOf y (s .channel) (s .sequence) (s .video .0) ≡ Macroblock b → s .sequence < sequencesOf y
+    by-system : (y : System) → carriesOf y (s .channel) (s .sequence) (s .video .0) ≡ Macroblock b → s .sequence < sequencesOf y
     by-system I60 r = ten-sequence _ _ _ b r
     by-system I50 r = eleven-sequence _ _ _ b r
     by-system P60 r = ten-sequence _ _ _ b r
@@ -234,7 +234,7 @@ within-there f s h v = pick-true _ _ (lt-ltb _ _ h) ∙ pick-true _ _ (lt-ltb _ 
 carries : (y : System) (s : Slot) (b : ℕ) → carriedIn y s ≡ Macroblock b → Carries y s
 carries y s b e = record { number = b; below = carried-lies y s b e .0; carried = e }
 
-ten-there : (y : System) (s : Slot) → rowsOf y ≡ tenCarries → s .channel < 4 → s .sequence < 10 → s .video .0 < 135 → Carries y s
+ten-there : (y : System) (s : Slot) → carriesOf y ≡ tenCarries → s .channel < 4 → s .sequence < 10 → s .video .0 < 135 → Carries y s
 unfolding tenCarries
 ten-there y s e h q v = carries y s _ (ap (λ (f : ℕ → ℕ → ℕ → Carried). within f s) e ∙ within-there tenCarries s h v ∙ pick-true _ _ (lt-ltb _ _ q))
 

@@ -9,7 +9,7 @@ use Rattle.rules.specs.declared.System.{System}
 use Rattle.rules.specs.declared.Section.the-variants.{Audio}
 use Rattle.rules.specs.declared.Sample.the-variants.{Lost}
 use Rattle.rules.specs.Systems.{sequencesOf, halfOf}
-use Rattle.rules.specs.Sound.{difOf, rowOf, sequenceOf, audioOf, placeOf}
+use Rattle.rules.specs.Sound.{difOf, rowOf, sequenceOf, audioOf, soundPlace}
 use Rattle.rules.specs.Check.{faultIn}
 use Rattle.rules.specs.Reading.{soundNamed, readSample, salvagedSample}
 use Rattle.rules.proofs.Systems.{half-cases, half-twice}
@@ -35,5 +35,5 @@ module _ (y : System) (frame : List ℕ) (c t : ℕ) where
 
   pub sound-clean : faultIn y frame ≡ 0 → 0 < c → c < 9 → soundNamed y frame c t ≡ true
   sound-clean z c1 c8 =
-      fault-zero y frame z (difOf c) (sequenceOf (halfOf y) c t) (placeOf (halfOf y) t) (omega arith) sound-sequence
+      fault-zero y frame z (difOf c) (sequenceOf (halfOf y) c t) (soundPlace (halfOf y) t) (omega arith) sound-sequence
       (place-in-below Audio (audioOf (halfOf y) t) (audio-below (halfOf y) (half-cases y) t))

@@ -17,7 +17,7 @@ use Rattle.rules.specs.declared.Fault.{Fault}
 use Rattle.rules.specs.declared.Survey.{Survey}
 use Rattle.rules.specs.Systems.{sequencesOf, halfOf, positionsOf, systemOf}
 use Rattle.rules.specs.Samples.{numberOf, sampleOf, wordAt}
-use Rattle.rules.specs.Sound.{difOf, sequenceOf, placeOf, byteOf}
+use Rattle.rules.specs.Sound.{difOf, sequenceOf, soundPlace, byteOf}
 use Rattle.rules.specs.Faults.{names, frameFaults, faultsIn}
 use Rattle.rules.specs.Stream.{blocksIn, unnamed}
 use Rattle.rules.specs.Records.{room, flat, kept, after}
@@ -87,7 +87,7 @@ module _ {k : ℕ} {y : System} {l : Lent} {frame f g : List ℕ} {samples sampl
   module _ (c t : ℕ) (channel : isAudio c ≡ true) (ht : t < positionsOf y) where
     untouched-named : soundBlock y g c t ≡ soundBlock y f c t → soundNamed y g c t ≡ true
     untouched-named e =
-        ap (λ (b : List ℕ). names b (difOf c) (sequenceOf (halfOf y) c t) (placeOf (halfOf y) t)) (e ∙ ap (λ (x : List ℕ). soundBlock y x c t) is)
+        ap (λ (b : List ℕ). names b (difOf c) (sequenceOf (halfOf y) c t) (soundPlace (halfOf y) t)) (e ∙ ap (λ (x : List ℕ). soundBlock y x c t) is)
         ∙ eq-eqb _ _ (sound-names y l c t (audio-above c channel) (audio-below c channel) ht)
 
     untouched-read : soundBlock y g c t ≡ soundBlock y f c t → numberOf (readSample y g c t) ≡ stored l c t

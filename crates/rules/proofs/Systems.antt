@@ -10,11 +10,11 @@ use Rattle.base.proofs.Cases.{by-eq}
 use Rattle.rules.specs.declared.System.{System}
 use Rattle.rules.specs.declared.System.the-variants.{I60, I50, P60, P50}
 use Rattle.rules.specs.declared.SystemNumber.the-variants.{Known, NoSystem}
-use Rattle.rules.specs.Systems.{sequencesOf, halfOf, positionsOf, countsOf, isCount, macroblocksOf, rateOf, stypeOf, systemOf, numberOf}
+use Rattle.rules.specs.Systems.{sequencesOf, halfOf, positionsOf, countsOf, isCount, macroblocksOf, rateOf, stypeOf, systemOf, numberOfSystem}
 
 -- ---- systemOf
 
-pub system-number : (y : System) → systemOf (numberOf y) ≡ Known y
+pub system-number : (y : System) → systemOf (numberOfSystem y) ≡ Known y
 unfolding systemOf pick
 system-number I60 = refl
 system-number I50 = refl

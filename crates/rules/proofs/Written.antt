@@ -167,14 +167,14 @@ module _ (y : System) (l : Lent) (c t : ℕ) (c1 : 0 < c) (c8 : c < 9) (ht : t <
 
   -- its block
   abbrev pub soundBlock : List ℕ
-  soundBlock = blockAt y (writtenFrame y l) (difOf c) q (sound.placeOf (halfOf y) t)
+  soundBlock = blockAt y (writtenFrame y l) (difOf c) q (sound.soundPlace (halfOf y) t)
 
   block-is : soundBlock ≡ idBytes (idOf (difOf c) q Audio (audioOf (halfOf y) t)) ++ payload y l (difOf c) q Audio (audioOf (halfOf y) t)
   block-is = frame-entry y l (difOf c) q Audio (audioOf (halfOf y) t) dif-below sequence-in (audio-below (halfOf y) half t)
 
-  pub sound-names : faultAt soundBlock (difOf c) q (sound.placeOf (halfOf y) t) ≡ 0
+  pub sound-names : faultAt soundBlock (difOf c) q (sound.soundPlace (halfOf y) t) ≡ 0
   sound-names =
-      frame-names y l (difOf c) q (sound.placeOf (halfOf y) t) dif-below sequence-in
+      frame-names y l (difOf c) q (sound.soundPlace (halfOf y) t) dif-below sequence-in
       (place-in-below Audio (audioOf (halfOf y) t) (audio-below (halfOf y) half t))
 
   bytes-are : wordBytes y l (difOf c) q (audioOf (halfOf y) t) (wordNumber (halfOf y) t) ≡ bytesOf (storedWord l c t)

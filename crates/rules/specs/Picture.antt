@@ -61,15 +61,15 @@ elevenCarries h q v =
 unfoldable pub within : (ℕ → ℕ → ℕ → Carried) → Slot → Carried
 within f s = pick (ltb (s .channel) 4) (pick (ltb (s .video .0) 135) (f (s .channel) (s .sequence) (s .video .0)) Nothing) Nothing
 
--- what a slot of a system carries
-abbrev pub rowsOf : System → ℕ → ℕ → ℕ → Carried
-rowsOf I60 = tenCarries
-rowsOf I50 = elevenCarries
-rowsOf P60 = tenCarries
-rowsOf P50 = tenCarries
+-- by the system, and what a slot of it carries
+abbrev pub carriesOf : System → ℕ → ℕ → ℕ → Carried
+carriesOf I60 = tenCarries
+carriesOf I50 = elevenCarries
+carriesOf P60 = tenCarries
+carriesOf P50 = tenCarries
 
 abbrev pub carriedIn : System → Slot → Carried
-carriedIn y = within (rowsOf y)
+carriedIn y = within (carriesOf y)
 
 -- ---- back: the slot of a macroblock
 

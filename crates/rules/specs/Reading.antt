@@ -9,16 +9,16 @@ use Rattle.rules.specs.declared.Sample.the-variants.{Lost}
 use Rattle.rules.specs.Systems.{halfOf}
 use Rattle.rules.specs.Blocks.{blockAt}
 use Rattle.rules.specs.Samples.{sampleOf, wordAt}
-use Rattle.rules.specs.Sound.{difOf, sequenceOf, placeOf, byteOf}
+use Rattle.rules.specs.Sound.{difOf, sequenceOf, soundPlace, byteOf}
 use Rattle.rules.specs.Faults.{names}
 
 -- the block of position t of audio channel c
 abbrev pub soundBlock : System → List ℕ → ℕ → ℕ → List ℕ
-soundBlock y frame c t = blockAt y frame (difOf c) (sequenceOf (halfOf y) c t) (placeOf (halfOf y) t)
+soundBlock y frame c t = blockAt y frame (difOf c) (sequenceOf (halfOf y) c t) (soundPlace (halfOf y) t)
 
 -- it names its place
 abbrev pub soundNamed : System → List ℕ → ℕ → ℕ → Bool
-soundNamed y frame c t = names (soundBlock y frame c t) (difOf c) (sequenceOf (halfOf y) c t) (placeOf (halfOf y) t)
+soundNamed y frame c t = names (soundBlock y frame c t) (difOf c) (sequenceOf (halfOf y) c t) (soundPlace (halfOf y) t)
 
 -- the sample of its word, as stored
 unfoldable pub readSample : System → List ℕ → ℕ → ℕ → Sample

@@ -22,8 +22,8 @@ sequenceOf s c t = s * halfAt c + rowOf s t
 abbrev pub audioOf : ℕ → ℕ → ℕ
 audioOf s t = 3 * (t % 3) + t % (9 * s) / (3 * s)
 
-abbrev pub placeOf : ℕ → ℕ → ℕ
-placeOf s t = placeIn Audio (audioOf s t)
+abbrev pub soundPlace : ℕ → ℕ → ℕ
+soundPlace s t = placeIn Audio (audioOf s t)
 
 -- "byte 8 + 2(t div 9s)", of the block's 36 words
 abbrev pub wordNumber : ℕ → ℕ → ℕ

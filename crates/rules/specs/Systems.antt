@@ -69,11 +69,11 @@ stypeOf P50 = 0x18
 unfoldable pub systemOf : ℕ → SystemNumber
 systemOf k = pick (eqb k 0) (Known I60) (pick (eqb k 1) (Known I50) (pick (eqb k 2) (Known P60) (pick (eqb k 3) (Known P50) NoSystem)))
 
-abbrev pub numberOf : System → ℕ
-numberOf I60 = 0
-numberOf I50 = 1
-numberOf P60 = 2
-numberOf P50 = 3
+abbrev pub numberOfSystem : System → ℕ
+numberOfSystem I60 = 0
+numberOfSystem I50 = 1
+numberOfSystem P60 = 2
+numberOfSystem P50 = 3
 
 -- what is said of a system, and what stands in where there is none
 abbrev pub inSystem : {A : Type 0} → A → (System → A) → SystemNumber → A

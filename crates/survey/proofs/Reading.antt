@@ -16,7 +16,7 @@ use Rattle.rules.specs.declared.System.the-variants.{I60, I50}
 use Rattle.rules.specs.declared.SystemNumber.{SystemNumber}
 use Rattle.rules.specs.declared.SystemNumber.the-variants.{Known}
 use Rattle.rules.specs.declared.Fault.{Fault}
-use Rattle.rules.specs.Systems.{sequencesOf, rateOf, systemOf, numberOf}
+use Rattle.rules.specs.Systems.{sequencesOf, rateOf, systemOf, numberOfSystem}
 use Rattle.rules.specs.Blocks.{sequenceAt}
 use Rattle.rules.specs.Faults.{sequenceFaults, partFaults, channelFaults, frameFaults, faultsIn}
 use Rattle.rules.specs.Records.{flat, kept, after}
@@ -114,8 +114,8 @@ read-all y k list₀ list t e held r =
       records = held;
       surveyed = λ x ex.
           let same : sequencesOf x ≡ n = rate-sequences x ∙ ap (λ (b : ℕ). 10 + 2 * b) ex ∙ sym (rate-sequences y) in
-          let faults : frameFaults y (r .bytes) ≡ faultsIn (systemOf (numberOf x)) (r .bytes) = rw (system-number x) (faults-sequences y x (r .bytes) (sym same)) in
-          survey-given _ _ list₀ list (t .total) (t .kept) (survey-0 (numberOf x) (length (r .bytes)) x (system-number x) (long ∙ ap (λ (j : ℕ). 48000 * j) (sym same)))
+          let faults : frameFaults y (r .bytes) ≡ faultsIn (systemOf (numberOfSystem x)) (r .bytes) = rw (system-number x) (faults-sequences y x (r .bytes) (sym same)) in
+          survey-given _ _ list₀ list (t .total) (t .kept) (survey-0 (numberOfSystem x) (length (r .bytes)) x (system-number x) (long ∙ ap (λ (j : ℕ). 48000 * j) (sym same)))
           (w .total ∙ ap length faults) (w .held ∙ ap (λ (fs : List Fault). length (kept list₀ fs)) faults) (w .left ∙ ap (after list₀) faults);
     }
 

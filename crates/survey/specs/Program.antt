@@ -7,7 +7,7 @@ use Rattle.base.specs.Run.{run}
 use Rattle.rules.specs.declared.System.{System}
 use Rattle.rules.specs.declared.System.the-variants.{I60, I50}
 use Rattle.rules.specs.declared.Fault.{Fault}
-use Rattle.rules.specs.Systems.{sequencesOf, rateOf, numberOf}
+use Rattle.rules.specs.Systems.{sequencesOf, rateOf, numberOfSystem}
 use Rattle.rules.specs.Faults.{sequenceFaults, partFaults}
 use Rattle.rules.specs.Records.{kept, after}
 use Rattle.rules.specs.Survey.{sequenceNumber, FrameSurveyed}
@@ -84,7 +84,7 @@ pub record SurveyOf (rate : ℕ) (list₀ list : List ℕ) (t : Tally) : Type 0 
   pub dsf : getD frame 3 0 / 128 ≡ rate
   pub whole : length frame ≡ 48000 * (10 + 2 * rate)
   pub records : Records list (t .kept)
-  pub surveyed : (y : System) → rateOf y ≡ rate → FrameSurveyed (numberOf y) frame list₀ (record { number = 0; total = t .total; kept = t .kept }) list
+  pub surveyed : (y : System) → rateOf y ≡ rate → FrameSurveyed (numberOfSystem y) frame list₀ (record { number = 0; total = t .total; kept = t .kept }) list
 
 -- what a run says: a whole frame's survey, or a wrong length
 unfoldable pub Ended : ℕ → List ℕ → List ℕ → Ran → Type 0
