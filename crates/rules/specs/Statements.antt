@@ -35,12 +35,12 @@ use Rattle.rules.specs.Macroblock.{macroblockNumber, slotBytes, Macroblo
 use Rattle.rules.specs.Time.{timeNumber, timeRefused, timeFound, TimeRead}
 use Rattle.rules.specs.Salvage.{salvageNumber, Salvaged}
 use Rattle.rules.specs.Written.{Lent, storedWord, writtenBlock}
-use Rattle.rules.specs.Write.{writeNumber, Wrote, Takes}
+use Rattle.rules.specs.Write.{lent, writeNumber, Wrote, Takes}
 
 -- ---- 1
 
 -- a call on one input: an outcome is its answer with the buffers as it left them, and meets its contract; it answers a number;
--- document 01's refusal table gives the number that is due; Quiet is what a refusal has to be
+-- document 01's refusal table gives the number that is due; Quiet is what a refusal has to be (of a check no more than its number)
 pub record Answers (Outcome : Type 0) (Meets : Outcome → Type 0) (answered : Outcome → ℕ) (due : ℕ) (Quiet : Outcome → Type 0) : Type 0 where
   -- "A public call accepts every input it can be handed": it comes to one outcome, and to no other
   pub one : ExactlyOne Outcome Meets
@@ -166,10 +166,4 @@ pub record Salvages (y : System) (l : Lent) (f g list : List ℕ) (r : Survey) (
 -- ---- what may be lent for a system and a count: one level throughout, and time 0
 
 abbrev pub tone : System → ℕ → ℕ → Lent
-tone y count level = record {
-  count = count;
-  sound = replicate (8 * count) (pos level);
-  macroblocks = replicate (77 * macroblocksOf y) 0;
-  timeCode = 0x40 ∷ 0 ∷ 0 ∷ 0 ∷ [];
-  binaryGroup = 0 ∷ 0 ∷ 0 ∷ 0 ∷ [];
-}
+tone y count level = lent count (replicate (8 * count) (pos level)) (replicate (77 * macroblocksOf y) 0) (0x40 ∷ 0 ∷ 0 ∷ 0 ∷ []) (0 ∷ 0 ∷ 0 ∷ 0 ∷ [])
