@@ -1,10 +1,39 @@
-// The number that each strict read answers: its refusals in their order. What can be asked is asked before the first number is given.
-mod audio;
-mod check;
-mod time;
-mod video;
+// The frame check, which every strict read asks for itself.
+ghost use mathlib.Core.Path.{_≡_};
+ghost use Rattle.rules.specs.Check.{Checked};
+ghost use Rattle.asks.specs.Asked.{wholeNumber};
+use judges::Test;
+use rules::System;
+use rules::SystemNumber;
 
-pub use audio::audio_number;
-pub use check::check_number;
-pub use time::time_number;
-pub use video::macroblock_number;
+// What a frame is refused for: 2, 11 to 15 of its first faulty block, 21, 22.
+pub fn checked(y: System, frame: &[u8]) -> u32
+    ensures { λ r. ⌜ r ≡ wholeNumber y (now (frame .entry)) ⌝ }
+{
+    let fault = first::first_fault(y, frame);
+    let dsf = judges::every_sequence(y, frame, Test::Dsf);
+    let vs = judges::every_sequence(y, frame, Test::Vs);
+    if fault != 0 {
+        return fault;
+    }
+    if !dsf {
+        return 21;
+    }
+    if !vs {
+        return 22;
+    }
+    0
+}
+
+// The number of a frame check: 1, 2, 11 to 15, 21, 22.
+pub fn check_number(system: u32, frame: &[u8]) -> u32
+    ensures { λ r. ⌜ Checked system (now (frame .entry)) r ⌝ }
+{
+    let SystemNumber::Known(y) = layout::system_of(system) else {
+        return 1;
+    };
+    if frame.len() != layout::frame_bytes(y) {
+        return 2;
+    }
+    checked(y, frame)
+}

@@ -21,7 +21,7 @@ fn slot_start(y: System, h: u32, q: u32, v: u32) -> usize
 pub fn macroblock_number(system: u32, frame: &[u8], number: u32) -> u32
     ensures { λ r. ⌜ MacroblockNumbered system (now (frame .entry)) number r ⌝ }
 {
-    asks::macroblock_number(system, frame, number)
+    asks_video::macroblock_number(system, frame, number)
 }
 
 // The 77 bytes of a macroblock, a part of the frame; none where its number is a refusal.
