@@ -8,15 +8,22 @@ use lib.ListN.{take, drop, getD, length-take, List·getD-eq-default}
 use lib.Seq.{getD-take, getD-drop}
 use Rattle.base.proofs.Parts.{part-part}
 use Rattle.rules.specs.declared.System.{System}
+use Rattle.rules.specs.declared.Section.{Section}
+use Rattle.rules.specs.declared.Section.the-variants.{Header, Subcode, Vaux, Audio}
+use Rattle.rules.specs.declared.BlockNumber.{BlockNumber}
+use Rattle.rules.specs.declared.Place.{Place}
 use Rattle.rules.specs.declared.Pack.{Pack}
 use Rattle.rules.specs.Systems.{sequencesOf, halfOf}
+use Rattle.rules.specs.Places.{blocksOf, place, placeFor}
 use Rattle.rules.specs.Packs.{packIn}
 use Rattle.rules.specs.Blocks.{sequenceAt, blockIn}
 use Rattle.rules.specs.Vaux.{vsAt}
 use Rattle.rules.specs.Aaux.{asAt}
 use Rattle.rules.specs.Check.{headerIn, vsIn}
 use Rattle.rules.specs.Audio.{asIn}
+use Rattle.rules.specs.Time.{ssybIn}
 use Rattle.rules.proofs.Systems.{sequences-le, half-twice}
+use Rattle.rules.proofs.Places.{place-in-below, place-for}
 use Rattle.rules.proofs.Vaux.{vs-below}
 use Rattle.rules.proofs.Aaux.{as-below}
 use Rattle.judges.specs.Asked.{partAt, Low, Start, PackAsked, FirstRow}
@@ -56,10 +63,10 @@ module _ (frame : List ℕ) (at : ℕ) where
       ∙ getD-take 80 (drop (at + p * 80) frame) i 0 hi
       ∙ getD-drop (at + p * 80) frame i 0)
 
-  pub header-way : (i r : ℕ) → i < 80 → r ≡ getD frame (at + i) 0 → r ≡ getD (headerIn (partAt frame at)) i 0
-  header-way i r h e =
-      let same : at + i ≡ at + 0 * 80 + i = omega arith in
-      e ∙ ap (λ (k : ℕ). getD frame k 0) same ∙ block-byte 0 i (omega arith) h
+  pub header-way : (p : Place) (i r : ℕ) → p ≡ placeFor Header (record { 0 = 0 }) → i < 80 → r ≡ getD frame (at + p .0 * 80 + i) 0 → r ≡ getD (headerIn (partAt frame at)) i 0
+  header-way p i r ep h e =
+      let there : p ≡ place 0 = ep ∙ place-for Header _ (omega arith) in
+      e ∙ rw there (block-byte 0 i (omega arith) h)
 
   pub header-past : (i : ℕ) → 80 ≤ i → 0 ≡ getD (headerIn (partAt frame at)) i 0
   unfolding blockIn
@@ -67,18 +74,18 @@ module _ (frame : List ℕ) (at : ℕ) where
       let part = drop (0 * 80) (partAt frame at) in
       sym (List·getD-eq-default (take 80 part) 0 (omega (arith, length-take 80 part)))
 
-  module _ (p i : ℕ) (asked : PackAsked at p i) where
-    pack-byte : (j : ℕ) → j < 5 → getD frame (at + p * 80 + i + j) 0 ≡ getD (blockIn (partAt frame at) p) (i + j) 0
+  module _ (p : Place) (i : ℕ) (asked : PackAsked at p i) where
+    pack-byte : (j : ℕ) → j < 5 → getD frame (at + p .0 * 80 + i + j) 0 ≡ getD (blockIn (partAt frame at) (p .0)) (i + j) 0
     pack-byte j h =
-        ap (λ (k : ℕ). getD frame k 0) (add-assoc (at + p * 80) i j)
-        ∙ block-byte p (i + j) (asked .place) (omega (arith, asked .within))
+        ap (λ (k : ℕ). getD frame k 0) (add-assoc (at + p .0 * 80) i j)
+        ∙ block-byte (p .0) (i + j) (asked .place) (omega (arith, asked .within))
 
     module _ (b0 b1 b2 b3 b4 : ℕ) where
-      pub pack-way : b0 ≡ getD frame (at + p * 80 + i) 0 → b1 ≡ getD frame (at + p * 80 + i + 1) 0 → b2 ≡ getD frame (at + p * 80 + i + 2) 0 → b3 ≡ getD frame (at + p * 80 + i + 3) 0 → b4 ≡ getD frame (at + p * 80 + i + 4) 0
-          → record { pc0 = b0; pc1 = b1; pc2 = b2; pc3 = b3; pc4 = b4 } ≡ packIn (blockIn (partAt frame at) p) i
+      pub pack-way : b0 ≡ getD frame (at + p .0 * 80 + i) 0 → b1 ≡ getD frame (at + p .0 * 80 + i + 1) 0 → b2 ≡ getD frame (at + p .0 * 80 + i + 2) 0 → b3 ≡ getD frame (at + p .0 * 80 + i + 3) 0 → b4 ≡ getD frame (at + p .0 * 80 + i + 4) 0
+          → record { pc0 = b0; pc1 = b1; pc2 = b2; pc3 = b3; pc4 = b4 } ≡ packIn (blockIn (partAt frame at) (p .0)) i
       pack-way e0 e1 e2 e3 e4 =
           rw (
-            e0 ∙ block-byte p i (asked .place) (omega (arith, asked .within)),
+            e0 ∙ block-byte (p .0) i (asked .place) (omega (arith, asked .within)),
             e1 ∙ pack-byte 1 (omega arith),
             e2 ∙ pack-byte 2 (omega arith),
             e3 ∙ pack-byte 3 (omega arith),
@@ -86,18 +93,28 @@ module _ (frame : List ℕ) (at : ℕ) where
           )
           refl
 
--- ---- VS and AS
+-- ---- the places of packs, p what the place rule says
 
-module _ (at q k : ℕ) where
-  pub vs-asked : k ≡ vsAt q → Low at → PackAsked at (3 + k / 15) (3 + 5 * (k % 15))
-  vs-asked e room = record { room = room; place = omega (arith, e, vs-below q); within = omega arith }
+-- the place of a section's block is one of the 150
+there : (s : Section) (k : BlockNumber) (p : Place) → p ≡ placeFor s k → k .0 < blocksOf s → p .0 < 150
+there s k p e h = rw (e, place-for s k h) (place-in-below s (k .0) h)
 
-  pub as-asked : k ≡ asAt q → Low at → PackAsked at (6 + 16 * k) 3
-  as-asked e room = record { room = room; place = omega (arith, e, as-below q); within = omega arith }
+module _ (at k : ℕ) (p : Place) (room : Low at) where
+  pub vs-asked : (q : ℕ) → k ≡ vsAt q → p ≡ placeFor Vaux (record { 0 = k / 15 }) → PackAsked at p (3 + 5 * (k % 15))
+  vs-asked q e ep = record { room = room; place = there Vaux _ p ep (omega (arith, e, vs-below q)); within = omega arith }
 
-module _ (part : List ℕ) (q k : ℕ) (r : Pack) where
-  pub vs-way : k ≡ vsAt q → r ≡ packIn (blockIn part (3 + k / 15)) (3 + 5 * (k % 15)) → r ≡ vsIn q part
-  vs-way e er = er ∙ rw e refl
+  pub as-asked : (q : ℕ) → k ≡ asAt q → p ≡ placeFor Audio (record { 0 = k }) → PackAsked at p 3
+  as-asked q e ep = record { room = room; place = there Audio _ p ep (omega (arith, e, as-below q)); within = omega arith }
 
-  pub as-way : k ≡ asAt q → r ≡ packIn (blockIn part (6 + 16 * k)) 3 → r ≡ asIn q part
-  as-way e er = er ∙ rw e refl
+  pub ssyb-asked : k < 12 → p ≡ placeFor Subcode (record { 0 = k / 6 }) → PackAsked at p (6 + 8 * (k % 6))
+  ssyb-asked h ep = record { room = room; place = there Subcode _ p ep (omega arith); within = omega arith }
+
+module _ (part : List ℕ) (k : ℕ) (p : Place) (r : Pack) where
+  pub vs-way : (q : ℕ) → k ≡ vsAt q → p ≡ placeFor Vaux (record { 0 = k / 15 }) → r ≡ packIn (blockIn part (p .0)) (3 + 5 * (k % 15)) → r ≡ vsIn q part
+  vs-way q e ep er = er ∙ rw (ep ∙ place-for Vaux _ (omega (arith, e, vs-below q)), e) refl
+
+  pub as-way : (q : ℕ) → k ≡ asAt q → p ≡ placeFor Audio (record { 0 = k }) → r ≡ packIn (blockIn part (p .0)) 3 → r ≡ asIn q part
+  as-way q e ep er = er ∙ rw (ep ∙ place-for Audio _ (omega (arith, e, as-below q)), e) refl
+
+  pub ssyb-way : k < 12 → p ≡ placeFor Subcode (record { 0 = k / 6 }) → r ≡ packIn (blockIn part (p .0)) (6 + 8 * (k % 6)) → r ≡ ssybIn k part
+  ssyb-way h ep er = er ∙ rw (ep ∙ place-for Subcode _ (omega arith)) refl

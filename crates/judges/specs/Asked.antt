@@ -4,6 +4,7 @@ use mathlib.Core.List.{List}
 use Prim.Native.Nat.{ℕ, _+_, _*_, _≤_, _<_}
 use lib.ListN.{take, drop}
 use Rattle.rules.specs.declared.System.{System}
+use Rattle.rules.specs.declared.Place.{Place}
 use Rattle.rules.specs.Systems.{sequencesOf}
 use Rattle.rules.specs.Audio.{firstOfHalf}
 
@@ -20,9 +21,9 @@ pub record Start (y : System) (h q r : ℕ) : Type 0 where
   pub is : r ≡ (sequencesOf y * h + q) * 12000
   pub room : Low r
 
-pub record PackAsked (at p i : ℕ) : Type 0 where
+pub record PackAsked (at : ℕ) (p : Place) (i : ℕ) : Type 0 where
   pub room : Low at
-  pub place : p < 150
+  pub place : p .0 < 150
   pub within : i + 5 ≤ 80
 
 pub record SsybAsked (at k : ℕ) : Type 0 where

@@ -10,7 +10,10 @@ ghost use Rattle.rules.specs.Time.{ssybIn};
 ghost use Rattle.judges.specs.Asked.{partAt, Start, Low, PackAsked, SsybAsked};
 use layout::BLOCK;
 use layout::SEQUENCE;
+use rules::BlockNumber;
 use rules::Pack;
+use rules::Place;
+use rules::Section;
 use rules::System;
 
 // Where sequence q of DIF channel h starts.
@@ -26,18 +29,19 @@ pub(crate) fn header_byte(frame: &[u8], at: usize, i: usize) -> u8
     requires { ⌜ Low at ⌝ }
     ensures { λ r. ⌜ r ≡ getD (headerIn (partAt (now (frame .entry)) at)) i 0 ⌝ }
 {
+    let p = layout::place_in(Section::Header, BlockNumber(0));
     if i < BLOCK {
-        return base::byte_at(frame, at + i);
+        return base::byte_at(frame, at + p.0 as usize * BLOCK + i);
     }
     0
 }
 
 // The pack from byte i on of the block at place p.
-fn pack_in(frame: &[u8], at: usize, p: u32, i: u32) -> Pack
+fn pack_in(frame: &[u8], at: usize, p: Place, i: u32) -> Pack
     requires { ⌜ PackAsked at p i ⌝ }
-    ensures { λ r. ⌜ r ≡ packIn (blockIn (partAt (now (frame .entry)) at) p) i ⌝ }
+    ensures { λ r. ⌜ r ≡ packIn (blockIn (partAt (now (frame .entry)) at) (p .0)) i ⌝ }
 {
-    let from = at + p as usize * BLOCK + i as usize;
+    let from = at + p.0 as usize * BLOCK + i as usize;
     Pack {
         pc0: base::byte_at(frame, from),
         pc1: base::byte_at(frame, from + 1),
@@ -53,7 +57,8 @@ pub(crate) fn vs_in(frame: &[u8], at: usize, q: u32) -> Pack
     ensures { λ r. ⌜ r ≡ vsIn q (partAt (now (frame .entry)) at) ⌝ }
 {
     let k = packs::vs_at(q);
-    pack_in(frame, at, 3 + k / 15, 3 + 5 * (k % 15))
+    let p = layout::place_in(Section::Vaux, BlockNumber(k / 15));
+    pack_in(frame, at, p, 3 + 5 * (k % 15))
 }
 
 // The AS of sequence q.
@@ -62,7 +67,8 @@ pub(crate) fn as_in(frame: &[u8], at: usize, q: u32) -> Pack
     ensures { λ r. ⌜ r ≡ asIn q (partAt (now (frame .entry)) at) ⌝ }
 {
     let a = packs::as_at(q);
-    pack_in(frame, at, 6 + 16 * a, 3)
+    let p = layout::place_in(Section::Audio, BlockNumber(a));
+    pack_in(frame, at, p, 3)
 }
 
 // The pack of SSYB k of the twelve.
@@ -70,5 +76,6 @@ pub(crate) fn ssyb_in(frame: &[u8], at: usize, k: u32) -> Pack
     requires { ⌜ SsybAsked at k ⌝ }
     ensures { λ r. ⌜ r ≡ ssybIn k (partAt (now (frame .entry)) at) ⌝ }
 {
-    pack_in(frame, at, 1 + k / 6, 6 + 8 * (k % 6))
+    let p = layout::place_in(Section::Subcode, BlockNumber(k / 6));
+    pack_in(frame, at, p, 6 + 8 * (k % 6))
 }

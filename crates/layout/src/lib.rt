@@ -8,6 +8,7 @@ pub use ids::read_block;
 pub use ids::read_id;
 pub use places::entry_at;
 pub use places::entry_of;
+pub use places::place_in;
 pub use places::place_of;
 pub use places::printed_places;
 pub use places::section_code;

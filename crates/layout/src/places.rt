@@ -1,7 +1,6 @@
 // The 150 places of a sequence: the printed table, and the rule that turns a place into a block of a section and back.
 ghost use mathlib.Core.Path.{_≡_};
-ghost use Prim.Native.Nat.{_<_};
-ghost use Rattle.rules.specs.Places.{codeOf, sectionOf, blocksOf, entryAt, placeIn, placeOf};
+ghost use Rattle.rules.specs.Places.{codeOf, sectionOf, blocksOf, entryAt, placeFor, placeOf};
 ghost use Rattle.rules.specs.Judging.{printedPlaces, entryOf};
 use crate::PLACES;
 use rules::BlockNumber;
@@ -119,27 +118,31 @@ fn blocks(s: Section) -> u32
     }
 }
 
-fn place_in(s: Section, number: u32) -> u32
-    requires { ⌜ number < blocksOf s ⌝ }
-    ensures { λ r. ⌜ r ≡ placeIn s number ⌝ }
+// The place of a section's block. Past the section's blocks there is none, and 150 stands in, which is no place.
+pub fn place_in(section: Section, number: BlockNumber) -> Place
+    ensures { λ r. ⌜ r ≡ placeFor section number ⌝ }
 {
-    match s {
-        Section::Header => number,
-        Section::Subcode => 1 + number,
-        Section::Vaux => 3 + number,
-        Section::Audio => 6 + 16 * number,
-        Section::Video => 7 + 16 * (number / 15) + number % 15,
+    let k = number.0;
+    if blocks(section) <= k {
+        return Place(PLACES);
+    }
+    match section {
+        Section::Header => Place(k),
+        Section::Subcode => Place(1 + k),
+        Section::Vaux => Place(3 + k),
+        Section::Audio => Place(6 + 16 * k),
+        Section::Video => Place(7 + 16 * (k / 15) + k % 15),
     }
 }
 
-// The place of a section's block.
+// The same of an entry, nowhere where there is none.
 pub fn place_of(e: Entry) -> Found
     ensures { λ r. ⌜ r ≡ placeOf e ⌝ }
 {
     let section = e.section;
-    let number = e.number.0;
-    if blocks(section) <= number {
+    let p = place_in(section, e.number);
+    if PLACES <= p.0 {
         return Found::Nowhere;
     }
-    Found::At(Place(place_in(section, number)))
+    Found::At(p)
 }

@@ -14,10 +14,11 @@ use Rattle.base.proofs.Picks.{pick-true, pick-false}
 use Rattle.base.proofs.Below.{below-at, both-left, both-right}
 use Rattle.rules.specs.declared.Section.{Section}
 use Rattle.rules.specs.declared.Section.the-variants.{Header, Subcode, Vaux, Audio, Video}
+use Rattle.rules.specs.declared.BlockNumber.{BlockNumber}
 use Rattle.rules.specs.declared.Place.{Place}
 use Rattle.rules.specs.declared.Entry.{Entry}
 use Rattle.rules.specs.declared.Found.the-variants.{At, Nowhere}
-use Rattle.rules.specs.Places.{codeOf, sectionOf, blocksOf, place, block, places, entryAt, placeIn, placeOf}
+use Rattle.rules.specs.Places.{codeOf, sectionOf, blocksOf, place, block, places, entryAt, placeIn, placeFor, placeOf}
 use Rattle.rules.specs.Judging.{printed, printedPlaces, entryOf}
 
 -- ---- codeOf, sectionOf
@@ -101,6 +102,20 @@ module _ (s : Section) (k : ℕ) (h : k < blocksOf s) where
       let e : entryAt (place (placeIn s k)) .section ≡ s = code-one _ _ (eqb→eq _ _ (both-left (same-section s k) (same-number s k) is-same)) in
       let n : entryAt (place (placeIn s k)) .number .0 ≡ k = eqb→eq _ _ (both-right (same-section s k) (same-number s k) is-same) in
       λ i. record { section = e i; number = record { 0 = n i } }
+
+-- ---- placeFor
+
+module _ (s : Section) (k : BlockNumber) where
+  pub place-for : k .0 < blocksOf s → placeFor s k ≡ place (placeIn s (k .0))
+  unfolding placeFor
+  place-for h = pick-true _ _ (lt-ltb _ _ h)
+
+  pub place-for-past : blocksOf s ≤ k .0 → placeFor s k ≡ place 150
+  unfolding placeFor
+  place-for-past h = pick-false _ _ (le-ltb _ _ h)
+
+  pub entry-place-for : k .0 < blocksOf s → entryAt (placeFor s k) ≡ record { section = s; number = k }
+  entry-place-for h = ap entryAt (place-for h) ∙ entry-place-in s (k .0) h
 
 -- ---- placeOf: the one rule that turns a place into a block and back
 

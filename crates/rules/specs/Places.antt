@@ -7,6 +7,7 @@ use Rattle.base.specs.Pick.{pick}
 use Rattle.base.specs.Run.{run, tab}
 use Rattle.rules.specs.declared.Section.{Section}
 use Rattle.rules.specs.declared.Section.the-variants.{Header, Subcode, Vaux, Audio, Video}
+use Rattle.rules.specs.declared.BlockNumber.{BlockNumber}
 use Rattle.rules.specs.declared.Place.{Place}
 use Rattle.rules.specs.declared.Entry.{Entry}
 use Rattle.rules.specs.declared.Found.{Found}
@@ -60,6 +61,10 @@ placeIn Subcode k = 1 + k
 placeIn Vaux k = 3 + k
 placeIn Audio a = 6 + 16 * a
 placeIn Video v = 7 + 16 * (v / 15) + v % 15
+
+-- of a block number: past the section's blocks there is none, and 150 stands in, which is no place
+unfoldable pub placeFor : Section → BlockNumber → Place
+placeFor s k = pick (ltb (k .0) (blocksOf s)) (place (placeIn s (k .0))) (place 150)
 
 unfoldable pub placeOf : Entry → Found
 placeOf e = pick (ltb (e .number .0) (blocksOf (e .section))) (At (place (placeIn (e .section) (e .number .0)))) Nowhere

@@ -1,7 +1,5 @@
 -- `judges::read::as_in` meets its contract: by the place of AS. Assumes nothing.
-use native.Mathlib.Omega.{arith}
 use borrow.Author.Needs.{needs}
-use Rattle.rules.proofs.Aaux.{as-below}
 use Rattle.judges.proofs.Places.{as-asked, as-way}
 use Rattle.judges.proofs.read.as_in.Statement.{statement}
 use Rattle.judges.proofs.read.as_in.Tie as tie
@@ -9,11 +7,8 @@ use Rattle.judges.proofs.read.as_in.Tie as tie
 as-at-requires : tie.Need-as-at-requires
 as-at-requires c κs = search needs
 
-mul-pack-in : tie.Need-mul-pack-in
-mul-pack-in c = omega (arith, as-below (c .before .before .args .q))
-
-add-pack-in : tie.Need-add-pack-in
-add-pack-in c = omega (arith, as-below (c .before .before .args .q))
+place-in-requires : tie.Need-place-in-requires
+place-in-requires c κs = search needs
 
 pack-in-requires : tie.Need-pack-in-requires
 pack-in-requires c κs = search (as-asked, needs)
@@ -22,4 +17,4 @@ returns : tie.Need-returns
 returns c = search (as-way, needs)
 
 pub as-in-spec : {M : Type 1} → statement M
-as-in-spec = tie.close (tie.spec as-at-requires mul-pack-in add-pack-in pack-in-requires returns)
+as-in-spec = tie.close (tie.spec as-at-requires place-in-requires pack-in-requires returns)

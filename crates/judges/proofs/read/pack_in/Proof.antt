@@ -4,6 +4,9 @@ use Rattle.judges.proofs.Places.{pack-way}
 use Rattle.judges.proofs.read.pack_in.Statement.{statement}
 use Rattle.judges.proofs.read.pack_in.Tie as tie
 
+cast-from : tie.Need-cast-from
+cast-from c = search needs
+
 mul-from : tie.Need-mul-from
 mul-from c = search needs
 
@@ -47,6 +50,7 @@ pub pack-in-spec : {M : Type 1} → statement M
 pack-in-spec =
     tie.close
     (tie.spec
+    cast-from
     mul-from
     add-from
     add-from-2

@@ -1,10 +1,16 @@
 -- `layout::places::place_in` meets its contract: section by section; the number is below 135. Assumes nothing.
-use mathlib.Core.Path.{refl}
 use native.Mathlib.Omega.{arith}
 use borrow.Author.Needs.{needs}
 use Rattle.rules.proofs.Places.{blocks-le}
+use Rattle.layout.proofs.Placing.{past-way, header-way, subcode-way, vaux-way, audio-way, video-way}
 use Rattle.layout.proofs.places.place_in.Statement.{statement}
 use Rattle.layout.proofs.places.place_in.Tie as tie
+
+blocks-requires : tie.Need-blocks-requires
+blocks-requires c κs = search needs
+
+returns : tie.Need-returns
+returns c = search (past-way, needs)
 
 enum-told : tie.Need-enum-told
 enum-told c = search needs
@@ -12,69 +18,71 @@ enum-told c = search needs
 enum-told-2 : tie.Need-enum-told-2
 enum-told-2 c = search needs
 
-add-result : tie.Need-add-result
-add-result c = omega (arith, blocks-le (c .before .before .args .s))
+add-t7 : tie.Need-add-t7
+add-t7 c = search needs
 
 enum-told-3 : tie.Need-enum-told-3
 enum-told-3 c = search needs
 
-add-result-2 : tie.Need-add-result-2
-add-result-2 c = omega (arith, blocks-le (c .before .before .args .s))
+add-t8 : tie.Need-add-t8
+add-t8 c = omega (arith, blocks-le (c .before .before .before .before .args .section))
 
 enum-told-4 : tie.Need-enum-told-4
 enum-told-4 c = search needs
 
-mul-result : tie.Need-mul-result
-mul-result c = omega (arith, blocks-le (c .before .before .args .s))
+mul-t9 : tie.Need-mul-t9
+mul-t9 c = omega (arith, blocks-le (c .before .before .before .before .args .section))
 
-add-result-3 : tie.Need-add-result-3
-add-result-3 c = omega (arith, blocks-le (c .before .before .args .s))
+add-t10 : tie.Need-add-t10
+add-t10 c = omega (arith, blocks-le (c .before .before .before .before .args .section))
 
 enum-told-5 : tie.Need-enum-told-5
 enum-told-5 c = search needs
 
-mul-result-2 : tie.Need-mul-result-2
-mul-result-2 c = omega (arith, blocks-le (c .before .before .args .s))
+mul-t12 : tie.Need-mul-t12
+mul-t12 c = omega (arith, blocks-le (c .before .before .before .before .args .section))
 
-add-result-4 : tie.Need-add-result-4
-add-result-4 c = omega (arith, blocks-le (c .before .before .args .s))
+add-t13 : tie.Need-add-t13
+add-t13 c = omega (arith, blocks-le (c .before .before .before .before .args .section))
 
-add-result-5 : tie.Need-add-result-5
-add-result-5 c = omega (arith, blocks-le (c .before .before .args .s))
-
-returns : tie.Need-returns
-returns c = search needs
+add-t15 : tie.Need-add-t15
+add-t15 c = omega (arith, blocks-le (c .before .before .before .before .args .section))
 
 returns-2 : tie.Need-returns-2
-returns-2 c = rw (c .enum-told2 .given .1) refl
+returns-2 c = search (header-way, needs)
 
 returns-3 : tie.Need-returns-3
-returns-3 c = rw (c .enum-told3 .given .1) refl
+returns-3 c = search (subcode-way, needs)
 
 returns-4 : tie.Need-returns-4
-returns-4 c = rw (c .enum-told4 .given .1) refl
+returns-4 c = search (vaux-way, needs)
 
 returns-5 : tie.Need-returns-5
-returns-5 c = rw (c .enum-told5 .given .1) refl
+returns-5 c = search (audio-way, needs)
+
+returns-6 : tie.Need-returns-6
+returns-6 c = search (video-way, needs)
 
 pub place-in-spec : {M : Type 1} → statement M
 place-in-spec =
     tie.close
     (tie.spec
+    blocks-requires
+    returns
     enum-told
     enum-told-2
-    add-result
+    add-t7
     enum-told-3
-    add-result-2
+    add-t8
     enum-told-4
-    mul-result
-    add-result-3
+    mul-t9
+    add-t10
     enum-told-5
-    mul-result-2
-    add-result-4
-    add-result-5
-    returns
+    mul-t12
+    add-t13
+    add-t15
     returns-2
     returns-3
     returns-4
-    returns-5)
+    returns-5
+    returns-6)
