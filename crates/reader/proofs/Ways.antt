@@ -2,7 +2,7 @@
 use mathlib.Core.Path.{_≡_, refl, sym, ap, _∙_}
 use mathlib.Core.Bool.{true, _&&_}
 use mathlib.Core.List.{List, [], _∷_, _++_}
-use Prim.Native.Nat.{ℕ, _+_, _*_, _-_, _/_, _%_, _≤_, _<_}
+use Prim.Native.Nat.{ℕ, _+_, _*_, _-_, _≤_, _<_}
 use native.Mathlib.Omega.{arith}
 use lib.Dec.{eqb, ltb, leb}
 use lib.IntN.{ℤ}
@@ -17,6 +17,8 @@ use Rattle.rules.specs.declared.System.{System}
 use Rattle.rules.specs.declared.SystemNumber.{SystemNumber}
 use Rattle.rules.specs.declared.SystemNumber.the-variants.{Known, NoSystem}
 use Rattle.rules.specs.declared.Section.the-variants.{Video}
+use Rattle.rules.specs.declared.BlockNumber.{BlockNumber}
+use Rattle.rules.specs.declared.Place.{Place}
 use Rattle.rules.specs.declared.Pack.{Pack}
 use Rattle.rules.specs.declared.Sample.{Sample}
 use Rattle.rules.specs.declared.Slot.{Slot}
@@ -26,7 +28,7 @@ use Rattle.rules.specs.declared.Carrier.the-variants.{In, NoSlot}
 use Rattle.rules.specs.declared.AudioAnswer.{AudioAnswer}
 use Rattle.rules.specs.declared.TimeAnswer.{TimeAnswer}
 use Rattle.rules.specs.Systems.{sequencesOf, positionsOf, macroblocksOf, systemOf}
-use Rattle.rules.specs.Places.{placeIn}
+use Rattle.rules.specs.Places.{placeIn, placeFor}
 use Rattle.rules.specs.Blocks.{startOf, blockAt}
 use Rattle.rules.specs.Samples.{numberOf}
 use Rattle.rules.specs.Picture.{carriedIn, carrierOf, carriedBy}
@@ -35,6 +37,7 @@ use Rattle.rules.specs.Audio.{countFor, isAudio, audioNumber, AudioRead}
 use Rattle.rules.specs.Macroblock.{macroblockNumber, slotBytes, MacroblockNumbered, MacroblockRead}
 use Rattle.rules.specs.Time.{timeFirst, groupFirst, settled, timeNumber, fourBytes, timeRefused, TimeRead}
 use Rattle.rules.proofs.Systems.{sequences-le}
+use Rattle.rules.proofs.Places.{place-for}
 use Rattle.rules.proofs.Blocks.{before-channel}
 use Rattle.rules.proofs.Check.{rows-mean}
 use Rattle.rules.proofs.Reading.{salvaged-named, sound-clean}
@@ -47,15 +50,22 @@ use Rattle.reader.specs.Asked.{SlotAsked, SlotStart}
 
 -- ---- slot_start
 
-pub start-is : (y : System) (h q v n r : ℕ) → SlotAsked y h q v → n ≡ sequencesOf y → r ≡ ((n * h + q) * 150 + (7 + 16 * (v / 15) + v % 15)) * 80 + 3 → SlotStart y h q v r
-start-is y h q v n r a en er =
-    let before = before-channel (sequencesOf y) h (a .channel) in
-    let e : n * h ≡ sequencesOf y * h = ap (λ (x : ℕ). x * h) en in
-    record {
-      is = omega (arith, er, e);
-      within = omega (arith, er, e, before, a .sequence, a .video);
-      small = omega (arith, er, e, before, a .sequence, a .video, sequences-le y);
-    }
+module _ (y : System) (h q : ℕ) (v : BlockNumber) (asked : SlotAsked y h q v) (p : Place) (ep : p ≡ placeFor Video v) where
+  slot-place : p .0 ≡ placeIn Video (v .0)
+  slot-place = ap (λ (x : Place). x .0) (ep ∙ place-for Video v (asked .video))
+
+  module _ (n : ℕ) (en : n ≡ sequencesOf y) where
+    -- n · h is one number to omega
+    before : n * h ≤ sequencesOf y * 3
+    before = rw en (before-channel (sequencesOf y) h (asked .channel))
+
+    pub slot-small : (n * h + q) * 150 + p .0 < 600 * sequencesOf y
+    slot-small = omega (arith, before, asked .sequence, asked .video, slot-place)
+
+    pub start-is : (r : ℕ) → r ≡ ((n * h + q) * 150 + p .0) * 80 + 3 → SlotStart y h q v r
+    start-is r er =
+        let e : n * h ≡ sequencesOf y * h = ap (λ (x : ℕ). x * h) en in
+        record { is = omega (arith, er, e, slot-place); within = omega (arith, er, slot-small); small = omega (arith, er, slot-small, sequences-le y) }
 
 -- ---- macroblock
 
@@ -87,10 +97,10 @@ module _ (k : ℕ) (frame : List ℕ) (b : ℕ) (s : SystemNumber) (es : s ≡ s
         carries : carriedIn y slot ≡ Macroblock b
         carries = rw lies at (carrier-carries y b (holds .1))
 
-        pub slot-asked : SlotAsked y (slot .channel) (slot .sequence) (slot .video .0)
+        pub slot-asked : SlotAsked y (slot .channel) (slot .sequence) (slot .video)
         slot-asked = let i = carried-inside y slot b carries in record { channel = i .channel; sequence = i .sequence; video = i .video }
 
-        module _ (at : ℕ) (st : SlotStart y (slot .channel) (slot .sequence) (slot .video .0) at) where
+        module _ (at : ℕ) (st : SlotStart y (slot .channel) (slot .sequence) (slot .video) at) where
           pub part-within : at + 77 ≤ length frame
           part-within = omega (arith, st .within, holds .0)
 

@@ -3,18 +3,19 @@ use mathlib.Core.Path.{_≡_}
 use Prim.Native.Nat.{ℕ, _+_, _*_, _≤_, _<_}
 use Rattle.rules.specs.declared.System.{System}
 use Rattle.rules.specs.declared.Section.the-variants.{Video}
+use Rattle.rules.specs.declared.BlockNumber.{BlockNumber}
 use Rattle.rules.specs.Systems.{sequencesOf}
 use Rattle.rules.specs.Places.{placeIn}
 use Rattle.rules.specs.Blocks.{startOf}
 
--- slot V(v) of sequence q of DIF channel h is one of the system's
-pub record SlotAsked (y : System) (h q v : ℕ) : Type 0 where
+-- video block v of sequence q of DIF channel h is one of the system's
+pub record SlotAsked (y : System) (h q : ℕ) (v : BlockNumber) : Type 0 where
   pub channel : h < 4
   pub sequence : q < sequencesOf y
-  pub video : v < 135
+  pub video : v .0 < 135
 
 -- r is where its 77 bytes start
-pub record SlotStart (y : System) (h q v r : ℕ) : Type 0 where
-  pub is : r ≡ startOf y h q (placeIn Video v) + 3
+pub record SlotStart (y : System) (h q : ℕ) (v : BlockNumber) (r : ℕ) : Type 0 where
+  pub is : r ≡ startOf y h q (placeIn Video (v .0)) + 3
   pub within : r + 77 ≤ 48000 * sequencesOf y
   pub small : r < 576000

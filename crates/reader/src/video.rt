@@ -3,18 +3,20 @@ ghost use Rattle.rules.specs.Macroblock.{MacroblockNumbered, MacroblockRead};
 ghost use Rattle.reader.specs.Asked.{SlotAsked, SlotStart};
 use layout::BLOCK;
 use layout::PLACES;
+use rules::BlockNumber;
 use rules::Carrier;
+use rules::Section;
 use rules::System;
 use rules::SystemNumber;
 
-// Where the 77 bytes of slot V(v) start, behind the ID of its block.
-fn slot_start(y: System, h: u32, q: u32, v: u32) -> usize
+// Where the 77 bytes of video block v start, behind its ID.
+fn slot_start(y: System, h: u32, q: u32, v: BlockNumber) -> usize
     requires { ⌜ SlotAsked y h q v ⌝ }
     ensures { λ r. ⌜ SlotStart y h q v r ⌝ }
 {
     let n = layout::sequences(y);
-    let place = 7 + 16 * (v / 15) + v % 15;
-    (((n * h + q) * PLACES + place) as usize) * BLOCK + 3
+    let p = layout::place_in(Section::Video, v);
+    (((n * h + q) * PLACES + p.0) as usize) * BLOCK + 3
 }
 
 // The number of a macroblock read. Refusals: 1, 2, 3, the frame check's, 23.
@@ -37,6 +39,6 @@ pub fn macroblock(system: u32, frame: &[u8], number: u32) -> &[u8]
     let Carrier::In(s) = picture::carrier(y, number) else {
         return &frame[0..0];
     };
-    let at = slot_start(y, s.channel, s.sequence, s.video.0);
+    let at = slot_start(y, s.channel, s.sequence, s.video);
     &frame[at..at + 77]
 }

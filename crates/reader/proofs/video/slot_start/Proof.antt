@@ -1,44 +1,37 @@
 -- `reader::video::slot_start` meets its contract: the sum is the start, and 77 bytes end in the frame. Assumes nothing.
 use native.Mathlib.Omega.{arith}
 use borrow.Author.Needs.{needs}
-use Rattle.rules.proofs.Blocks.{before-channel}
 use Rattle.rules.proofs.Systems.{sequences-le}
-use Rattle.reader.proofs.Ways.{start-is}
+use Rattle.reader.proofs.Ways.{slot-small, start-is}
 use Rattle.reader.proofs.video.slot_start.Statement.{statement}
 use Rattle.reader.proofs.video.slot_start.Tie as tie
 
 sequences-requires : tie.Need-sequences-requires
 sequences-requires c κs = search needs
 
-mul-place : tie.Need-mul-place
-mul-place c = search needs
-
-add-place : tie.Need-add-place
-add-place c = search needs
-
-add-place-2 : tie.Need-add-place-2
-add-place-2 c = search needs
+place-in-requires : tie.Need-place-in-requires
+place-in-requires c κs = search needs
 
 mul-result : tie.Need-mul-result
-mul-result c = omega (arith, before-channel (c .sequences .result) (c .before .args .h) (c .before .pre .channel), sequences-le (c .before .args .y))
+mul-result c = omega (arith, slot-small _ _ _ _ (c .before .before .pre) _ (c .place-in .ensures) _ (c .before .sequences .ensures), sequences-le (c .before .before .args .y))
 
 add-result : tie.Need-add-result
-add-result c = omega (arith, before-channel (c .sequences .result) (c .before .args .h) (c .before .pre .channel), sequences-le (c .before .args .y))
+add-result c = omega (arith, slot-small _ _ _ _ (c .before .before .pre) _ (c .place-in .ensures) _ (c .before .sequences .ensures), sequences-le (c .before .before .args .y))
 
 mul-result-2 : tie.Need-mul-result-2
-mul-result-2 c = omega (arith, before-channel (c .sequences .result) (c .before .args .h) (c .before .pre .channel), sequences-le (c .before .args .y))
+mul-result-2 c = omega (arith, slot-small _ _ _ _ (c .before .before .pre) _ (c .place-in .ensures) _ (c .before .sequences .ensures), sequences-le (c .before .before .args .y))
 
 add-result-2 : tie.Need-add-result-2
-add-result-2 c = omega (arith, before-channel (c .sequences .result) (c .before .args .h) (c .before .pre .channel), sequences-le (c .before .args .y))
+add-result-2 c = omega (arith, slot-small _ _ _ _ (c .before .before .before .pre) _ (c .before .place-in .ensures) _ (c .before .before .sequences .ensures), sequences-le (c .before .before .before .args .y))
 
 cast-result : tie.Need-cast-result
-cast-result c = omega (arith, before-channel (c .sequences .result) (c .before .args .h) (c .before .pre .channel), sequences-le (c .before .args .y))
+cast-result c = omega (arith, slot-small _ _ _ _ (c .before .before .before .pre) _ (c .before .place-in .ensures) _ (c .before .before .sequences .ensures), sequences-le (c .before .before .before .args .y))
 
 mul-result-3 : tie.Need-mul-result-3
-mul-result-3 c = omega (arith, before-channel (c .sequences .result) (c .before .args .h) (c .before .pre .channel), sequences-le (c .before .args .y))
+mul-result-3 c = omega (arith, slot-small _ _ _ _ (c .before .before .before .pre) _ (c .before .place-in .ensures) _ (c .before .before .sequences .ensures), sequences-le (c .before .before .before .args .y))
 
 add-result-3 : tie.Need-add-result-3
-add-result-3 c = omega (arith, before-channel (c .sequences .result) (c .before .args .h) (c .before .pre .channel), sequences-le (c .before .args .y))
+add-result-3 c = omega (arith, slot-small _ _ _ _ (c .before .before .before .pre) _ (c .before .place-in .ensures) _ (c .before .before .sequences .ensures), sequences-le (c .before .before .before .args .y))
 
 returns : tie.Need-returns
 returns c = search (start-is, needs)
@@ -48,9 +41,7 @@ slot-start-spec =
     tie.close
     (tie.spec
     sequences-requires
-    mul-place
-    add-place
-    add-place-2
+    place-in-requires
     mul-result
     add-result
     mul-result-2
