@@ -2,7 +2,7 @@
 use mathlib.Core.Path.{_≡_, refl, sym, ap, _∙_}
 use mathlib.Core.Bool.{true, _&&_}
 use mathlib.Core.List.{List, [], _∷_, _++_}
-use Prim.Native.Nat.{ℕ, _+_, _*_, _-_, _/_, _%_, _≤_, _<_}
+use Prim.Native.Nat.{ℕ, _+_, _*_, _-_, _≤_, _<_}
 use native.Mathlib.Omega.{arith}
 use lib.Dec.{eqb, ltb, leb}
 use lib.IntN.{ℤ}
@@ -51,18 +51,21 @@ use Rattle.reader.specs.Asked.{SlotAsked, SlotStart}
 -- ---- slot_start
 
 module _ (y : System) (h q : ℕ) (v : BlockNumber) (asked : SlotAsked y h q v) (p : Place) (ep : p ≡ placeFor Video v) where
-  pub slot-place : p .0 ≡ placeIn Video (v .0)
+  slot-place : p .0 ≡ placeIn Video (v .0)
   slot-place = ap (λ (x : Place). x .0) (ep ∙ place-for Video v (asked .video))
 
-  pub start-is : (n r : ℕ) → n ≡ sequencesOf y → r ≡ ((n * h + q) * 150 + p .0) * 80 + 3 → SlotStart y h q v r
-  start-is n r en er =
-      let before = before-channel (sequencesOf y) h (asked .channel) in
-      let e : n * h ≡ sequencesOf y * h = ap (λ (x : ℕ). x * h) en in
-      record {
-        is = omega (arith, er, e, slot-place);
-        within = omega (arith, er, e, before, asked .sequence, asked .video, slot-place);
-        small = omega (arith, er, e, before, asked .sequence, asked .video, slot-place, sequences-le y);
-      }
+  module _ (n : ℕ) (en : n ≡ sequencesOf y) where
+    -- n · h is one number to omega
+    before : n * h ≤ sequencesOf y * 3
+    before = rw en (before-channel (sequencesOf y) h (asked .channel))
+
+    pub slot-small : (n * h + q) * 150 + p .0 < 600 * sequencesOf y
+    slot-small = omega (arith, before, asked .sequence, asked .video, slot-place)
+
+    pub start-is : (r : ℕ) → r ≡ ((n * h + q) * 150 + p .0) * 80 + 3 → SlotStart y h q v r
+    start-is r er =
+        let e : n * h ≡ sequencesOf y * h = ap (λ (x : ℕ). x * h) en in
+        record { is = omega (arith, er, e, slot-place); within = omega (arith, er, slot-small); small = omega (arith, er, slot-small, sequences-le y) }
 
 -- ---- macroblock
 

@@ -15,17 +15,18 @@ use Rattle.base.specs.Pick.{pick}
 use Rattle.base.proofs.Parts.{range-part, length-part}
 use Rattle.rules.specs.declared.System.{System}
 use Rattle.rules.specs.declared.Section.the-variants.{Audio}
+use Rattle.rules.specs.declared.Place.{Place}
 use Rattle.rules.specs.declared.Sample.{Sample}
 use Rattle.rules.specs.declared.Sample.the-variants.{Lost}
 use Rattle.rules.specs.Systems.{halfOf}
-use Rattle.rules.specs.Places.{block}
+use Rattle.rules.specs.Places.{block, placeIn, placeFor}
 use Rattle.rules.specs.Ids.{blockAnswer}
 use Rattle.rules.specs.Blocks.{blockIn}
 use Rattle.rules.specs.Samples.{numberOf, sampleOf}
 use Rattle.rules.specs.Sound.{rowOf, audioOf, soundPlace, wordNumber, rowAt, firstAt, sampleAt}
 use Rattle.rules.specs.Faults.{faultOf, faultAt, names}
 use Rattle.rules.proofs.Systems.{half-cases, positions-half}
-use Rattle.rules.proofs.Places.{entry-place-in}
+use Rattle.rules.proofs.Places.{entry-place-in, place-for}
 use Rattle.rules.proofs.Sound.{half-some, half-le, sample-back, audio-below, word-below, first-below, row-sample, audio-sample}
 use Rattle.rescue.specs.Taken.{heldWord, heldBlock, heldPart, Placed, Between}
 use Rattle.rescue.specs.Asked.{WordsAsked, BlockAsked, PartAsked}
@@ -107,33 +108,39 @@ module _ (y : System) (bytes : List ℕ) (q a : ℕ) (before : List ℤ) (asked 
               ⊎-elim (λ below. omega (arith, er, ea)) (λ above. omega (arith, er, ea)) o);
         }
 
--- ---- take_part: audio block a of a sequence, lent from its byte
+-- ---- take_part: audio block a of a sequence, lent from its byte; b is what the place rule says
 
-module _ (part : List ℕ) (y : System) (h q a : ℕ) (before mid now : List ℤ) (asked : PartAsked part y (length before)) (l : a < 9)
+audio-place : (a : ℕ) (b : Place) → b ≡ placeFor Audio (record { 0 = a }) → a < 9 → b .0 ≡ placeIn Audio a
+audio-place a b e l = ap (λ (x : Place). x .0) (e ∙ place-for Audio _ l)
+
+pub block-ends : (part : List ℕ) (y : System) (n a : ℕ) (b : Place) → PartAsked part y n → b ≡ placeFor Audio (record { 0 = a }) → a < 9 → b .0 * 80 + 80 ≤ length part
+block-ends part y n a b asked e l = omega (arith, asked .whole, audio-place a b e l)
+
+module _ (part : List ℕ) (y : System) (h q a : ℕ) (before mid now : List ℤ) (asked : PartAsked part y (length before)) (l : a < 9) (b : Place) (eb : b ≡ placeFor Audio (record { 0 = a }))
     (p : Between (halfOf y) (9 * rowAt (halfOf y) q) (9 * rowAt (halfOf y) q + a) (heldPart (halfOf y) part h q) before mid) where
-  pub block-asked : BlockAsked (take ((6 + 16 * a) * 80 + 80 - (6 + 16 * a) * 80) (drop ((6 + 16 * a) * 80) part)) y a (length mid)
+  pub block-asked : BlockAsked (take (b .0 * 80 + 80 - b .0 * 80) (drop (b .0 * 80) part)) y a (length mid)
   block-asked =
-      let at = (6 + 16 * a) * 80 in
       record {
-        whole = ap length (range-part at 80 part) ∙ length-part at 80 part (omega (arith, asked .whole));
+        whole = ap length (range-part (b .0 * 80) 80 part) ∙ length-part (b .0 * 80) 80 part (block-ends part y _ a b asked eb l);
         audio = l;
         room = omega (arith, asked .room, p .size);
       }
 
   pub part-turn : Between (halfOf y) (9 * rowAt (halfOf y) q + a) (9 * rowAt (halfOf y) q + a + 1)
-      (heldBlock (halfOf y) (take ((6 + 16 * a) * 80 + 80 - (6 + 16 * a) * 80) (drop ((6 + 16 * a) * 80) part)) h q) mid now
+      (heldBlock (halfOf y) (take (b .0 * 80 + 80 - b .0 * 80) (drop (b .0 * 80) part)) h q) mid now
       → Between (halfOf y) (9 * rowAt (halfOf y) q) (9 * rowAt (halfOf y) q + (a + 1)) (heldPart (halfOf y) part h q) before now
   unfolding heldPart blockIn
   part-turn n =
       let s = halfOf y in
       let r = rowAt s q in
       let e : 9 * r + a + 1 ≡ 9 * r + (a + 1) = omega arith in
-      let m = subst (λ (i : ℕ). Between s (9 * r + a) i (heldBlock s (take ((6 + 16 * a) * 80 + 80 - (6 + 16 * a) * 80) (drop ((6 + 16 * a) * 80) part)) h q) mid now) e n in
+      let m = subst (λ (i : ℕ). Between s (9 * r + a) i (heldBlock s (take (b .0 * 80 + 80 - b .0 * 80) (drop (b .0 * 80) part)) h q) mid now) e n in
       between-next s (9 * r) (9 * r + a) (9 * r + (a + 1)) _ before mid now (omega arith) (omega arith) p
       (between-same s (9 * r + a) (9 * r + (a + 1)) _ _ mid now (λ t lo hi.
       let er : rowOf s t ≡ r = omega (arith, audio-below s (half-cases y) t) in
       let ea : audioOf s t ≡ a = omega (arith, er) in
-      ap (λ (b : List ℕ). heldBlock s b h q t) (range-part ((6 + 16 * a) * 80) 80 part ∙ ap (λ (i : ℕ). take 80 (drop ((6 + 16 * i) * 80) part)) (sym ea))) m)
+      let there : b .0 ≡ soundPlace s t = audio-place a b eb l ∙ ap (placeIn Audio) (sym ea) in
+      ap (λ (x : List ℕ). heldBlock s x h q t) (range-part (b .0 * 80) 80 part ∙ ap (λ (i : ℕ). take 80 (drop (i * 80) part)) there)) m)
 
 pub part-done : (part : List ℕ) (y : System) (h q a : ℕ) (before now : List ℤ) → a ≤ 9 → 9 ≤ a
     → Between (halfOf y) (9 * rowAt (halfOf y) q) (9 * rowAt (halfOf y) q + a) (heldPart (halfOf y) part h q) before now

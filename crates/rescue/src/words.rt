@@ -63,7 +63,8 @@ pub(crate) fn take_part(part: &[u8], y: System, h: u32, q: u32, samples: &mut [i
 {
     let mut a: u32 = 0;
     while a < 9 {
-        let at = (6 + 16 * (a as usize)) * BLOCK;
+        let p = layout::place_in(Section::Audio, BlockNumber(a));
+        let at = p.0 as usize * BLOCK;
         take_block(&part[at..at + BLOCK], y, h, q, a, samples);
         a += 1;
     }

@@ -2,10 +2,10 @@
 use Prim.Native.Nat.{_+_, _-_, _*_, _≤_}
 use native.Mathlib.Omega.{arith}
 use borrow.Author.Needs.{needs}
-use Rattle.rules.specs.Systems.{halfOf}
 use Rattle.rules.specs.Sound.{rowAt}
+use Rattle.rules.specs.Systems.{halfOf}
+use Rattle.rescue.proofs.Ways.{block-ends, block-asked, part-turn, part-done, part-none}
 use Rattle.rescue.specs.Taken.{heldPart, Between}
-use Rattle.rescue.proofs.Ways.{block-asked, part-turn, part-done, part-none}
 use Rattle.rescue.proofs.words.take_part.Statement.{statement}
 use Rattle.rescue.proofs.words.take_part.Tie as tie
 
@@ -18,29 +18,26 @@ abbrev μ-loop : tie.MeasureT-loop
 loop-holds : tie.Need-loop-holds Inv-loop μ-loop
 loop-holds c = (part-none _ _ _ _ _, omega arith)
 
+place-in-requires : tie.Need-place-in-requires Inv-loop μ-loop
+place-in-requires c κs = search needs
+
 cast-at : tie.Need-cast-at Inv-loop μ-loop
-cast-at c = omega arith
+cast-at c = search needs
 
 mul-at : tie.Need-mul-at Inv-loop μ-loop
-mul-at c = omega arith
-
-add-at : tie.Need-add-at Inv-loop μ-loop
-add-at c = omega arith
-
-mul-at-2 : tie.Need-mul-at-2 Inv-loop μ-loop
-mul-at-2 c = omega arith
+mul-at c = search needs
 
 add-take-block : tie.Need-add-take-block Inv-loop μ-loop
-add-take-block c = omega arith
+add-take-block c = search needs
 
 sub-take-block : tie.Need-sub-take-block Inv-loop μ-loop
-sub-take-block c = omega arith
+sub-take-block c = search needs
 
 part-take-block-start : tie.Need-part-take-block-start Inv-loop μ-loop
-part-take-block-start c = omega arith
+part-take-block-start c = search needs
 
 part-take-block-end : tie.Need-part-take-block-end Inv-loop μ-loop
-part-take-block-end c = omega arith
+part-take-block-end c = search (block-ends, needs)
 
 take-block-requires : tie.Need-take-block-requires Inv-loop μ-loop
 take-block-requires c κs = search (block-asked, needs)
@@ -67,10 +64,9 @@ take-part-spec =
     Inv-loop
     μ-loop
     loop-holds
+    place-in-requires
     cast-at
     mul-at
-    add-at
-    mul-at-2
     add-take-block
     sub-take-block
     part-take-block-start
