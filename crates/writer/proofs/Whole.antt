@@ -1,16 +1,20 @@
 -- Each way out of the writers of a block, a sequence, a DIF channel and the frame, and of the call. Assumes nothing.
 use mathlib.Core.Path.{_≡_, refl, sym, ap, ap₂, _∙_}
+use mathlib.Core.Bool.{Bool, true}
 use mathlib.Core.List.{List, [], _++_, append-nil, append-assoc}
 use Prim.Native.Nat.{ℕ, _+_, _-_, _*_, _/_, _%_, _≤_, _<_}
 use native.Mathlib.Omega.{arith}
-use lib.Dec.{ltb}
+use lib.Dec.{eqb, ltb}
 use lib.IntN.{ℤ}
 use lib.ListN.{length, take, drop, drop-of-length-le, length-append}
 use lib.Seq.{take-at, drop-at, drop-drop}
 use mir.Syntax.{w64}
 use mir.Val.{Fits}
+use borrow.Author.Tests.{eq-eqb, lt-ltb}
 use borrow.Rule.Slice.PartMut.{putMid, postOf}
+use Rattle.base.specs.Pick.{pick}
 use Rattle.base.specs.Run.{run, Wide}
+use Rattle.base.proofs.Picks.{pick-true}
 use Rattle.base.proofs.Runs.{end-within, run-same, run-split, run-rows, length-run}
 use Rattle.base.proofs.Filling.{Filled, filled-none, filled-next, filled-end}
 use Rattle.base.proofs.Parts.{length-part, range-part}
@@ -32,7 +36,8 @@ use Rattle.rules.specs.Write.{lent, writeNumber, Wrote}
 use Rattle.rules.proofs.Systems.{sequences-le}
 use Rattle.rules.proofs.Written.{block-entry, block-wide, sequence-wide, channel-wide}
 use Rattle.rules.proofs.Write.{write-1, taken-takes, write-stopped, write-done}
-use Rattle.writer.specs.Asked.{AudioAsked, VideoAsked, PartAsked, RowAsked, ChannelPartAsked, FrameAsked}
+use Rattle.blocks.specs.Fits.{numberFits, audioFits, videoFits}
+use Rattle.writer.specs.Asked.{PartAsked, RowAsked, ChannelPartAsked, FrameAsked}
 use Rattle.writer.specs.Rows.{subcodeBlocks, headBlocks, vauxBlocks, rowVideo, rowBlocks, allRows}
 
 -- ---- two parts that are lent one after the other
@@ -52,6 +57,18 @@ three-parts zs vs rs xs ez ev ex =
     rw (take-at zs (drop 240 xs) 240 ez, drop-at zs (drop 240 xs) 240 ez, far) (sym (append-assoc zs vs (drop 480 xs))) in
     ap (λ (b : List ℕ). putMid 480 11520 b rs) two
     ∙ rw (take-at (zs ++ vs) (drop 480 xs) 480 both, drop-at (zs ++ vs) (drop 480 xs) 480 both, rest, append-nil) (append-assoc zs vs rs)
+
+-- ---- what fits is written
+
+written : (b : Bool) (ws ps zs : List ℕ) → b ≡ true → zs ≡ pick b ws ps → zs ≡ ws
+written b ws ps zs e ez = ez ∙ pick-true ws ps e
+
+number-fits : (n k m : ℕ) → n ≡ 80 → k < m → numberFits n k m ≡ true
+number-fits n k m e l = rw (eq-eqb _ _ e, lt-ltb _ _ l) refl
+
+-- block k of a part of m bytes
+block-long : (xs : List ℕ) (k m : ℕ) → length xs ≡ m → k * 80 + 80 ≤ m → length (take (k * 80 + 80 - k * 80) (drop (k * 80) xs)) ≡ 80
+block-long xs k m e l = ap length (range-part (k * 80) 80 xs) ∙ length-part (k * 80) 80 xs (omega (arith, e))
 
 step : (a j : ℕ) → 6 + 16 * a + (1 + j) ≡ 7 + 16 * a + j
 step a j = omega arith
@@ -104,28 +121,35 @@ module _ (y : System) (h q count : ℕ) (sound : List ℤ) (macroblocks time gro
   subcode-in k = writtenBlock y l h q (1 + k)
 
   module _ (d xs : List ℕ) (asked : PartAsked d 160 y h q l) (k : ℕ) (ex : Filled 80 subcode-in k d xs) where
-    pub subcodes-turn : (ys : List ℕ) (i : BlockId) (s : ℕ) → k < 2 → s ≡ halfOf y → i ≡ idOf h q Subcode k
-        → ys ≡ idBytes i ++ subcodeBytes (ltb q s) (timePack time) (groupPack group) k → Filled 80 subcode-in (k + 1) d (putMid (k * 80) (k * 80 + 80 - k * 80) xs ys)
-    subcodes-turn ys i s hk es ei ey = filled-next 80 subcode-in (λ j. block-wide y l h q (1 + j)) k d xs ys ex (subcode-at ys i k s hk es ei ey)
+    pub subcodes-turn : (ys : List ℕ) (i : BlockId) (s : ℕ) → length xs ≡ length d → k < 2 → s ≡ halfOf y → i ≡ idOf h q Subcode k
+        → ys ≡ pick (numberFits (length (take (k * 80 + 80 - k * 80) (drop (k * 80) xs))) k 2) (idBytes i ++ subcodeBytes (ltb q s) (timePack time) (groupPack group) k) (take (k * 80 + 80 - k * 80) (drop (k * 80) xs))
+        → Filled 80 subcode-in (k + 1) d (putMid (k * 80) (k * 80 + 80 - k * 80) xs ys)
+    subcodes-turn ys i s same hk es ei ey =
+        filled-next 80 subcode-in (λ j. block-wide y l h q (1 + j)) k d xs ys ex
+        (subcode-at ys i k s hk es ei (written _ _ _ ys (number-fits _ k 2 (block-long xs k 160 (same ∙ asked .long) (omega arith)) hk) ey))
 
     pub subcodes-done : k ≤ 2 → 2 ≤ k → xs ≡ subcodeBlocks y l h q
     unfolding subcodeBlocks
     subcodes-done le ge = filled-end 80 subcode-in k 2 d xs ex (asked .long) le ge
 
-  pub head-done : (xs zs ss : List ℕ) (i : BlockId) → PartAsked xs 240 y h q l → i ≡ idOf h q Header 0 → zs ≡ idBytes i ++ headerBytes y → ss ≡ subcodeBlocks y l h q
+  pub head-done : (xs ps zs ss : List ℕ) (i : BlockId) → PartAsked xs 240 y h q l → length ps ≡ 80 → i ≡ idOf h q Header 0
+      → zs ≡ pick (eqb (length ps) 80) (idBytes i ++ headerBytes y) ps → ss ≡ subcodeBlocks y l h q
       → putMid 80 160 (zs ++ postOf 0 80 xs) ss ≡ headBlocks y l h q
   unfolding headBlocks subcodeBlocks run
-  head-done xs zs ss i asked ei ez es =
-      let eh : zs ≡ writtenBlock y l h q 0 = header-at zs i ei ez in
+  head-done xs ps zs ss i asked ep ei ez es =
+      let eh : zs ≡ writtenBlock y l h q 0 = header-at zs i ei (written _ _ ps zs (eq-eqb _ _ ep) ez) in
       two-parts 80 160 zs ss xs (ap length eh ∙ block-wide y l h q 0) (asked .long) ∙ rw (eh, es) (sym (run-split (writtenBlock y l h q) 1 2))
 
   abbrev pub vaux-in : ℕ → List ℕ
   vaux-in k = writtenBlock y l h q (3 + k)
 
   module _ (d xs : List ℕ) (asked : PartAsked d 240 y h q l) (k : ℕ) (ex : Filled 80 vaux-in k d xs) where
-    pub vauxes-turn : (ys : List ℕ) (i : BlockId) → k < 3 → i ≡ idOf h q Vaux k → ys ≡ idBytes i ++ vauxBytes y q k
+    pub vauxes-turn : (ys : List ℕ) (i : BlockId) → length xs ≡ length d → k < 3 → i ≡ idOf h q Vaux k
+        → ys ≡ pick (numberFits (length (take (k * 80 + 80 - k * 80) (drop (k * 80) xs))) k 3) (idBytes i ++ vauxBytes y q k) (take (k * 80 + 80 - k * 80) (drop (k * 80) xs))
         → Filled 80 vaux-in (k + 1) d (putMid (k * 80) (k * 80 + 80 - k * 80) xs ys)
-    vauxes-turn ys i hk ei ey = filled-next 80 vaux-in (λ j. block-wide y l h q (3 + j)) k d xs ys ex (vaux-at ys i k hk ei ey)
+    vauxes-turn ys i same hk ei ey =
+        filled-next 80 vaux-in (λ j. block-wide y l h q (3 + j)) k d xs ys ex
+        (vaux-at ys i k hk ei (written _ _ _ ys (number-fits _ k 3 (block-long xs k 240 (same ∙ asked .long) (omega arith)) hk) ey))
 
     pub vauxes-done : k ≤ 3 → 3 ≤ k → xs ≡ vauxBlocks y l h q
     unfolding vauxBlocks
@@ -138,16 +162,17 @@ module _ (y : System) (h q count : ℕ) (sound : List ℤ) (macroblocks time gro
     video-in j = writtenBlock y l h q (7 + 16 * a + j)
 
     module _ (d xs : List ℕ) (asked : RowAsked d 1200 y h q a l) where
-      pub video-asked : (j : ℕ) → j < 15 → length xs ≡ length d → VideoAsked (take (j * 80 + 80 - j * 80) (drop (j * 80) xs)) y macroblocks
-      video-asked j hj same = record {
-        long = ap length (range-part (j * 80) 80 xs) ∙ length-part (j * 80) 80 xs (omega (arith, same, asked .whole .long));
-        pictures = asked .whole .lengths .pictures;
-      }
+      video-fits : (j : ℕ) → j < 15 → length xs ≡ length d → videoFits (length (take (j * 80 + 80 - j * 80) (drop (j * 80) xs))) y (length macroblocks) ≡ true
+      unfolding videoFits
+      video-fits j hj same = rw (eq-eqb _ _ (block-long xs j 1200 (same ∙ asked .whole .long) (omega arith)), eq-eqb _ _ (asked .whole .lengths .pictures)) refl
 
       module _ (j : ℕ) (ex : Filled 80 video-in j d xs) where
-        pub videos-turn : (ys : List ℕ) (i : BlockId) → j < 15 → i ≡ idOf h q Video (15 * a + j) → ys ≡ idBytes i ++ carriedBytes macroblocks (carriedIn y (slot h q (15 * a + j)))
+        pub videos-turn : (ys : List ℕ) (i : BlockId) → length xs ≡ length d → j < 15 → i ≡ idOf h q Video (15 * a + j)
+            → ys ≡ pick (videoFits (length (take (j * 80 + 80 - j * 80) (drop (j * 80) xs))) y (length macroblocks)) (idBytes i ++ carriedBytes macroblocks (carriedIn y (slot h q (15 * a + j)))) (take (j * 80 + 80 - j * 80) (drop (j * 80) xs))
             → Filled 80 video-in (j + 1) d (putMid (j * 80) (j * 80 + 80 - j * 80) xs ys)
-        videos-turn ys i hj ei ey = filled-next 80 video-in (λ k. block-wide y l h q (7 + 16 * a + k)) j d xs ys ex (video-at ys i a j (asked .row) hj ei ey)
+        videos-turn ys i same hj ei ey =
+            filled-next 80 video-in (λ k. block-wide y l h q (7 + 16 * a + k)) j d xs ys ex
+            (video-at ys i a j (asked .row) hj ei (written _ _ _ ys (video-fits j hj same) ey))
 
         pub videos-done : j ≤ 15 → 15 ≤ j → xs ≡ rowVideo y l h q a
         unfolding rowVideo
@@ -162,10 +187,17 @@ module _ (y : System) (h q count : ℕ) (sound : List ℤ) (macroblocks time gro
         run-split (λ (j : ℕ). writtenBlock y l h q (6 + 16 * a + j)) 1 15
         ∙ ap₂ _++_ (ap (writtenBlock y l h q) first) (run-same (λ (j : ℕ). writtenBlock y l h q (6 + 16 * a + (1 + j))) (λ (j : ℕ). writtenBlock y l h q (7 + 16 * a + j)) 15 next)
 
-    pub row-done : (xs zs vs : List ℕ) (i : BlockId) → RowAsked xs 1280 y h q a l → i ≡ idOf h q Audio a → zs ≡ idBytes i ++ audioBytes y l h q a → vs ≡ rowVideo y l h q a
+    audio-fits : (xs ps : List ℕ) → RowAsked xs 1280 y h q a l → length ps ≡ 80 → audioFits (length ps) y h q count (length sound) a ≡ true
+    unfolding audioFits
+    audio-fits xs ps asked e =
+        let r = asked .whole in
+        rw (eq-eqb _ _ e, lt-ltb _ _ (asked .row), lt-ltb _ _ (r .channel), lt-ltb _ _ (r .sequence), r .lengths .counts, eq-eqb _ _ (r .lengths .sounds)) refl
+
+    pub row-done : (xs ps zs vs : List ℕ) (i : BlockId) → RowAsked xs 1280 y h q a l → length ps ≡ 80 → i ≡ idOf h q Audio a
+        → zs ≡ pick (audioFits (length ps) y h q count (length sound) a) (idBytes i ++ audioBytes y l h q a) ps → vs ≡ rowVideo y l h q a
         → putMid 80 1200 (zs ++ postOf 0 80 xs) vs ≡ rowBlocks y l h q a
-    row-done xs zs vs i asked ei ez ev =
-        let ea : zs ≡ writtenBlock y l h q (6 + 16 * a) = audio-at zs i a (asked .row) ei ez in
+    row-done xs ps zs vs i asked ep ei ez ev =
+        let ea : zs ≡ writtenBlock y l h q (6 + 16 * a) = audio-at zs i a (asked .row) ei (written _ _ ps zs (audio-fits xs ps asked ep) ez) in
         two-parts 80 1200 zs vs xs (ap length ea ∙ block-wide y l h q (6 + 16 * a)) (asked .whole .long) ∙ rw (ea, ev) (sym row-parts)
 
   -- ---- the rows, and the sequence
@@ -216,17 +248,6 @@ smaller-asked part block m n y h q l a e = record { long = e; channel = a .chann
 
 pub smaller-row-asked : (part block : List ℕ) (m n : ℕ) (y : System) (h q a : ℕ) (l : Lent) → RowAsked part m y h q a l → length block ≡ n → RowAsked block n y h q a l
 smaller-row-asked part block m n y h q a l r e = record { whole = smaller-asked part block m n y h q l (r .whole) e; row = r .row }
-
-pub audio-asked : (part block : List ℕ) (n : ℕ) (y : System) (h q a count : ℕ) (sound : List ℤ) (macroblocks time group : List ℕ)
-    → RowAsked part n y h q a (lent count sound macroblocks time group) → length block ≡ 80 → AudioAsked block y h q count sound a
-audio-asked part block n y h q a count sound macroblocks time group r e = record {
-  long = e;
-  channel = r .whole .channel;
-  sequence = r .whole .sequence;
-  counts = r .whole .lengths .counts;
-  sounds = r .whole .lengths .sounds;
-  below = r .row;
-}
 
 -- ---- a DIF channel
 

@@ -6,11 +6,6 @@ ghost use Rattle.rules.specs.Written.{writtenSequence};
 ghost use Rattle.rules.specs.Write.{lent};
 ghost use Rattle.writer.specs.Asked.{PartAsked, RowAsked};
 ghost use Rattle.writer.specs.Rows.{subcodeBlocks, headBlocks, vauxBlocks, rowVideo, rowBlocks, allRows};
-use crate::audio;
-use crate::header;
-use crate::subcode;
-use crate::vaux;
-use crate::video;
 use layout::BLOCK;
 use rules::BlockId;
 use rules::BlockNumber;
@@ -48,7 +43,7 @@ fn write_subcodes(
         let at = (k as usize) * BLOCK;
         let to = at + BLOCK;
         let early = q < layout::half(y);
-        subcode::write_subcode(
+        blocks::put_subcode(
             &mut part[at..to],
             id(h, q, Section::Subcode, k),
             early,
@@ -75,7 +70,7 @@ fn write_head(
     requires { ⌜ PartAsked (now part) 240 y h q (lent count (now sound) (now macroblocks) (now time) (now group)) ⌝ }
     ensures { λ _. ⌜ now (part .exit) ≡ headBlocks y (lent count (now (sound .entry)) (now (macroblocks .entry)) (now (time .entry)) (now (group .entry))) h q ⌝ }
 {
-    header::write_header(&mut part[0..80], id(h, q, Section::Header, 0), y);
+    blocks::put_header(&mut part[0..80], id(h, q, Section::Header, 0), y);
     write_subcodes(
         &mut part[80..240],
         y,
@@ -108,7 +103,7 @@ fn write_vauxes(
     while k < 3 {
         let at = (k as usize) * BLOCK;
         let to = at + BLOCK;
-        vaux::write_vaux(&mut part[at..to], id(h, q, Section::Vaux, k), y, q, k);
+        blocks::put_vaux(&mut part[at..to], id(h, q, Section::Vaux, k), y, q, k);
         k += 1;
     }
 }
@@ -134,7 +129,7 @@ fn write_videos(
         let at = (j as usize) * BLOCK;
         let to = at + BLOCK;
         let v = 15 * a + j;
-        video::write_video(
+        blocks::put_video(
             &mut part[at..to],
             id(h, q, Section::Video, v),
             y,
@@ -163,7 +158,7 @@ fn write_row(
     requires { ⌜ RowAsked (now part) 1280 y h q a (lent count (now sound) (now macroblocks) (now time) (now group)) ⌝ }
     ensures { λ _. ⌜ now (part .exit) ≡ rowBlocks y (lent count (now (sound .entry)) (now (macroblocks .entry)) (now (time .entry)) (now (group .entry))) h q a ⌝ }
 {
-    audio::write_audio(
+    blocks::put_audio(
         &mut part[0..80],
         id(h, q, Section::Audio, a),
         y,

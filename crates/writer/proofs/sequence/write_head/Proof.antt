@@ -4,20 +4,20 @@ use Rattle.writer.proofs.Whole.{head-done}
 use Rattle.writer.proofs.sequence.write_head.Statement.{statement}
 use Rattle.writer.proofs.sequence.write_head.Tie as tie
 
-sub-write-header : tie.Need-sub-write-header
-sub-write-header c = search needs
+sub-put-header : tie.Need-sub-put-header
+sub-put-header c = search needs
 
-part-write-header-start : tie.Need-part-write-header-start
-part-write-header-start c = search needs
+part-put-header-start : tie.Need-part-put-header-start
+part-put-header-start c = search needs
 
-part-write-header-end : tie.Need-part-write-header-end
-part-write-header-end c = search needs
+part-put-header-end : tie.Need-part-put-header-end
+part-put-header-end c = search needs
 
 id-requires : tie.Need-id-requires
 id-requires c κs = search needs
 
-write-header-requires : tie.Need-write-header-requires
-write-header-requires c κs = search needs
+put-header-requires : tie.Need-put-header-requires
+put-header-requires c κs = search needs
 
 sub-write-subcodes : tie.Need-sub-write-subcodes
 sub-write-subcodes c = search needs
@@ -41,11 +41,11 @@ pub write-head-spec : {M : Type 1} → statement M
 write-head-spec =
     tie.close
     (tie.spec
-    sub-write-header
-    part-write-header-start
-    part-write-header-end
+    sub-put-header
+    part-put-header-start
+    part-put-header-end
     id-requires
-    write-header-requires
+    put-header-requires
     sub-write-subcodes
     part-write-subcodes-start
     part-write-subcodes-end

@@ -4,20 +4,20 @@ use Rattle.writer.proofs.Whole.{row-done}
 use Rattle.writer.proofs.sequence.write_row.Statement.{statement}
 use Rattle.writer.proofs.sequence.write_row.Tie as tie
 
-sub-write-audio : tie.Need-sub-write-audio
-sub-write-audio c = search needs
+sub-put-audio : tie.Need-sub-put-audio
+sub-put-audio c = search needs
 
-part-write-audio-start : tie.Need-part-write-audio-start
-part-write-audio-start c = search needs
+part-put-audio-start : tie.Need-part-put-audio-start
+part-put-audio-start c = search needs
 
-part-write-audio-end : tie.Need-part-write-audio-end
-part-write-audio-end c = search needs
+part-put-audio-end : tie.Need-part-put-audio-end
+part-put-audio-end c = search needs
 
 id-requires : tie.Need-id-requires
 id-requires c κs = search needs
 
-write-audio-requires : tie.Need-write-audio-requires
-write-audio-requires c κs = search needs
+put-audio-requires : tie.Need-put-audio-requires
+put-audio-requires c κs = search needs
 
 sub-write-videos : tie.Need-sub-write-videos
 sub-write-videos c = search needs
@@ -41,11 +41,11 @@ pub write-row-spec : {M : Type 1} → statement M
 write-row-spec =
     tie.close
     (tie.spec
-    sub-write-audio
-    part-write-audio-start
-    part-write-audio-end
+    sub-put-audio
+    part-put-audio-start
+    part-put-audio-end
     id-requires
-    write-audio-requires
+    put-audio-requires
     sub-write-videos
     part-write-videos-start
     part-write-videos-end

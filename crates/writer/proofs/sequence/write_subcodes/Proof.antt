@@ -30,20 +30,20 @@ add-to c = search needs
 half-requires : tie.Need-half-requires Inv-loop μ-loop
 half-requires c κs = search needs
 
-sub-write-subcode : tie.Need-sub-write-subcode Inv-loop μ-loop
-sub-write-subcode c = search needs
+sub-put-subcode : tie.Need-sub-put-subcode Inv-loop μ-loop
+sub-put-subcode c = search needs
 
-part-write-subcode-start : tie.Need-part-write-subcode-start Inv-loop μ-loop
-part-write-subcode-start c = search needs
+part-put-subcode-start : tie.Need-part-put-subcode-start Inv-loop μ-loop
+part-put-subcode-start c = search needs
 
-part-write-subcode-end : tie.Need-part-write-subcode-end Inv-loop μ-loop
-part-write-subcode-end c = search needs
+part-put-subcode-end : tie.Need-part-put-subcode-end Inv-loop μ-loop
+part-put-subcode-end c = search needs
 
 id-requires : tie.Need-id-requires Inv-loop μ-loop
 id-requires c κs = search needs
 
-write-subcode-requires : tie.Need-write-subcode-requires Inv-loop μ-loop
-write-subcode-requires c κs = search needs
+put-subcode-requires : tie.Need-put-subcode-requires Inv-loop μ-loop
+put-subcode-requires c κs = search needs
 
 add-k : tie.Need-add-k Inv-loop μ-loop
 add-k c = search needs
@@ -71,11 +71,11 @@ write-subcodes-spec =
     mul-at
     add-to
     half-requires
-    sub-write-subcode
-    part-write-subcode-start
-    part-write-subcode-end
+    sub-put-subcode
+    part-put-subcode-start
+    part-put-subcode-end
     id-requires
-    write-subcode-requires
+    put-subcode-requires
     add-k
     loop-less
     loop-again

@@ -27,20 +27,20 @@ mul-at c = search needs
 add-to : tie.Need-add-to Inv-loop μ-loop
 add-to c = search needs
 
-sub-write-vaux : tie.Need-sub-write-vaux Inv-loop μ-loop
-sub-write-vaux c = search needs
+sub-put-vaux : tie.Need-sub-put-vaux Inv-loop μ-loop
+sub-put-vaux c = search needs
 
-part-write-vaux-start : tie.Need-part-write-vaux-start Inv-loop μ-loop
-part-write-vaux-start c = search needs
+part-put-vaux-start : tie.Need-part-put-vaux-start Inv-loop μ-loop
+part-put-vaux-start c = search needs
 
-part-write-vaux-end : tie.Need-part-write-vaux-end Inv-loop μ-loop
-part-write-vaux-end c = search needs
+part-put-vaux-end : tie.Need-part-put-vaux-end Inv-loop μ-loop
+part-put-vaux-end c = search needs
 
 id-requires : tie.Need-id-requires Inv-loop μ-loop
 id-requires c κs = search needs
 
-write-vaux-requires : tie.Need-write-vaux-requires Inv-loop μ-loop
-write-vaux-requires c κs = search needs
+put-vaux-requires : tie.Need-put-vaux-requires Inv-loop μ-loop
+put-vaux-requires c κs = search needs
 
 add-k : tie.Need-add-k Inv-loop μ-loop
 add-k c = search needs
@@ -67,11 +67,11 @@ write-vauxes-spec =
     cast-at
     mul-at
     add-to
-    sub-write-vaux
-    part-write-vaux-start
-    part-write-vaux-end
+    sub-put-vaux
+    part-put-vaux-start
+    part-put-vaux-end
     id-requires
-    write-vaux-requires
+    put-vaux-requires
     add-k
     loop-less
     loop-again

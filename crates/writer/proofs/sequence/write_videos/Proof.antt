@@ -5,7 +5,7 @@ use native.Mathlib.Omega.{arith}
 use lib.ListN.{length}
 use borrow.Author.Needs.{needs}
 use Rattle.base.proofs.Filling.{Filled, filled-none}
-use Rattle.writer.proofs.Whole.{video-in, video-asked, videos-turn, videos-done}
+use Rattle.writer.proofs.Whole.{video-in, videos-turn, videos-done}
 use Rattle.writer.proofs.sequence.write_videos.Statement.{statement}
 use Rattle.writer.proofs.sequence.write_videos.Tie as tie
 
@@ -33,20 +33,20 @@ mul-v c = search needs
 add-v : tie.Need-add-v Inv-loop μ-loop
 add-v c = search needs
 
-sub-write-video : tie.Need-sub-write-video Inv-loop μ-loop
-sub-write-video c = search needs
+sub-put-video : tie.Need-sub-put-video Inv-loop μ-loop
+sub-put-video c = search needs
 
-part-write-video-start : tie.Need-part-write-video-start Inv-loop μ-loop
-part-write-video-start c = search needs
+part-put-video-start : tie.Need-part-put-video-start Inv-loop μ-loop
+part-put-video-start c = search needs
 
-part-write-video-end : tie.Need-part-write-video-end Inv-loop μ-loop
-part-write-video-end c = search needs
+part-put-video-end : tie.Need-part-put-video-end Inv-loop μ-loop
+part-put-video-end c = search needs
 
 id-requires : tie.Need-id-requires Inv-loop μ-loop
 id-requires c κs = search needs
 
-write-video-requires : tie.Need-write-video-requires Inv-loop μ-loop
-write-video-requires c κs = search (video-asked, needs)
+put-video-requires : tie.Need-put-video-requires Inv-loop μ-loop
+put-video-requires c κs = search (needs)
 
 add-j : tie.Need-add-j Inv-loop μ-loop
 add-j c = search needs
@@ -75,11 +75,11 @@ write-videos-spec =
     add-to
     mul-v
     add-v
-    sub-write-video
-    part-write-video-start
-    part-write-video-end
+    sub-put-video
+    part-put-video-start
+    part-put-video-end
     id-requires
-    write-video-requires
+    put-video-requires
     add-j
     loop-less
     loop-again

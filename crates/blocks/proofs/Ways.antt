@@ -1,0 +1,322 @@
+-- Each way out of the block writers, by what their callees left. Assumes nothing.
+use mathlib.Core.Path.{_≡_, refl, sym, ap, _∙_, subst}
+use mathlib.Core.Bool.{Bool}
+use mathlib.Core.List.{List, [], _∷_, _++_, append-nil}
+use Prim.Native.Nat.{ℕ, _+_, _-_, _*_, _%_, _^_, _≤_, _<_}
+use native.Mathlib.Nat.{mod-eq-of-lt, mod-lt, mul-le-mul-left, le-antisymm, zero-add}
+use native.Mathlib.Numerals.{add-one}
+use native.Mathlib.Omega.{arith}
+use lib.IntN.{ℤ, pos}
+use lib.Signed.{mag}
+use lib.ListN.{length, take, drop, getD, set, replicate, drop-of-length-le}
+use lib.Seq.{drop-drop, take-all, paste-suc, getD-take, getD-drop}
+use mir.Syntax.{w32, w64}
+use mir.Val.{toZ, ofZ, Fits}
+use mir.ValLaws.{toZ-ofZ}
+use borrow.Author.Tests.{lt-ltb, le-ltb}
+use borrow.Rule.Slice.PartMut.{putMid, postOf}
+use Rattle.base.specs.Run.{run}
+use Rattle.base.proofs.Cases.{by-lt}
+use Rattle.base.proofs.Picks.{pick-true, pick-false, pick-either}
+use Rattle.base.proofs.Runs.{run-same, end-within, tab-part}
+use Rattle.base.proofs.Filling.{Filled, filled-next, filled-end}
+use Rattle.base.proofs.Parts.{length-part, range-part}
+use Rattle.rules.specs.declared.System.{System}
+use Rattle.rules.specs.declared.BlockId.{BlockId}
+use Rattle.rules.specs.declared.Pack.{Pack}
+use Rattle.rules.specs.declared.SubcodePack.{SubcodePack}
+use Rattle.rules.specs.declared.Carried.{Carried}
+use Rattle.rules.specs.declared.Carried.the-variants.{Macroblock, Nothing}
+use Rattle.rules.specs.Systems.{halfOf}
+use Rattle.rules.specs.Ids.{idBytes}
+use Rattle.rules.specs.Packs.{packBytes, packOf}
+use Rattle.rules.specs.Header.{rateByte, headerBytes}
+use Rattle.rules.specs.TimeCode.{timePack, groupPack}
+use Rattle.rules.specs.Subcode.{kindOf, subcodePack, frByte, ssyb, ssybs, subcodeBytes}
+use Rattle.rules.specs.Vaux.{vauxPack, vauxPacks, vauxBytes}
+use Rattle.rules.specs.Aaux.{aauxPack}
+use Rattle.rules.specs.Samples.{wordFor, bytesOf}
+use Rattle.rules.specs.Sound.{audioAt, rowAt, firstAt}
+use Rattle.rules.specs.Picture.{slot, carriedIn}
+use Rattle.rules.specs.Written.{Lent, storedWord, wordBytes, audioBytes, carriedBytes}
+use Rattle.rules.specs.Write.{lent}
+use Rattle.rules.proofs.Systems.{half-cases, half-twice, count-below, positions-le, count-turns}
+use Rattle.rules.proofs.Samples.{word-below}
+use Rattle.rules.proofs.Sound.{Half, half-some, half-le, first-below, audio-within}
+use Rattle.rules.proofs.Picture.{carried-lies}
+use Rattle.rules.proofs.Subcode.{ssyb-length}
+use Rattle.blocks.specs.Asked.{ChannelAsked, SamplesAsked, WordsAsked, AudioAsked, VideoAsked}
+use Rattle.blocks.specs.Words.{samplesOf, sampleWord, wordPair}
+
+-- ---- the first bytes of a list, stored one after the other
+
+pub two-set : (xs : List ℕ) (a b : ℕ) → length xs ≡ 2 → set (set xs 0 a) 1 b ≡ a ∷ b ∷ []
+two-set [] a b h = absurd (omega arith)
+two-set (_ ∷ []) a b h = absurd (omega arith)
+two-set (_ ∷ _ ∷ []) a b h = refl
+two-set (_ ∷ _ ∷ _ ∷ xs) a b h = absurd (omega arith)
+
+pub three-set : (xs : List ℕ) (a b c : ℕ) → length xs ≡ 3 → set (set (set xs 0 a) 1 b) 2 c ≡ a ∷ b ∷ c ∷ []
+three-set [] a b c h = absurd (omega arith)
+three-set (_ ∷ []) a b c h = absurd (omega arith)
+three-set (_ ∷ _ ∷ []) a b c h = absurd (omega arith)
+three-set (_ ∷ _ ∷ _ ∷ []) a b c h = refl
+three-set (_ ∷ _ ∷ _ ∷ _ ∷ xs) a b c h = absurd (omega arith)
+
+pub five-set : (xs : List ℕ) (a b c d e : ℕ) → length xs ≡ 5 → set (set (set (set (set xs 0 a) 1 b) 2 c) 3 d) 4 e ≡ a ∷ b ∷ c ∷ d ∷ e ∷ []
+five-set [] a b c d e h = absurd (omega arith)
+five-set (_ ∷ []) a b c d e h = absurd (omega arith)
+five-set (_ ∷ _ ∷ []) a b c d e h = absurd (omega arith)
+five-set (_ ∷ _ ∷ _ ∷ []) a b c d e h = absurd (omega arith)
+five-set (_ ∷ _ ∷ _ ∷ _ ∷ []) a b c d e h = absurd (omega arith)
+five-set (_ ∷ _ ∷ _ ∷ _ ∷ _ ∷ []) a b c d e h = refl
+five-set (_ ∷ _ ∷ _ ∷ _ ∷ _ ∷ _ ∷ xs) a b c d e h = absurd (omega arith)
+
+-- nothing is left of a list after its length
+none-left : (n : ℕ) (xs : List ℕ) → length xs ≡ n → drop n xs ≡ []
+none-left n xs e = drop-of-length-le xs {i = n} (omega arith)
+
+-- ---- parts
+
+pub id-put : (zs bytes : List ℕ) (id : BlockId) → bytes ≡ idBytes id → zs ≡ getD bytes 0 0 ∷ getD bytes 1 0 ∷ getD bytes 2 0 ∷ [] → zs ≡ idBytes id
+unfolding idBytes
+id-put zs bytes id e ez = ez ∙ rw e refl
+
+-- ---- the header
+
+pub header-done : (xs ys zs ws : List ℕ) (id : BlockId) (y : System) (r : ℕ) → length xs ≡ 80 → ys ≡ replicate (length xs) 255 → zs ≡ idBytes id → r ≡ rateByte y
+    → ws ≡ r ∷ 255 ∷ 127 ∷ 127 ∷ 127 ∷ [] → putMid 3 5 (zs ++ postOf 0 3 ys) ws ≡ idBytes id ++ headerBytes y
+unfolding idBytes headerBytes
+header-done xs ys zs ws id y r n ey ez er ew = rw (ez, ey, n, ew, er) refl
+
+-- ---- the subcode
+
+pub ssyb-done : (xs hs ps : List ℕ) (first : Bool) (time group p : Pack) (k i : ℕ) (kind : SubcodePack) → length xs ≡ 8 → i ≡ frByte first → hs ≡ i ∷ (240 + k) ∷ 255 ∷ []
+    → kind ≡ kindOf first k → p ≡ subcodePack kind time group → ps ≡ packBytes p → putMid 3 5 (hs ++ postOf 0 3 xs) ps ≡ ssyb first time group k
+unfolding ssyb
+ssyb-done xs hs ps first time group p k i kind n ei eh ek ep eps =
+    let e : drop 5 (drop 3 xs) ≡ [] = drop-drop 5 3 xs ∙ none-left 8 xs n in
+    rw (eh, eps, ei, e, ep, ek) refl
+
+-- the six of a block, in a loop
+module _ (first : Bool) (time group : Pack) (k : ℕ) where
+  abbrev pub ssyb-at : ℕ → List ℕ
+  ssyb-at j = ssyb first time group (6 * k + j)
+
+  module _ (j : ℕ) (d xs : List ℕ) (ex : Filled 8 ssyb-at j d xs) where
+    pub ssybs-turn : (ys : List ℕ) → ys ≡ ssyb first time group (6 * k + j) → Filled 8 ssyb-at (j + 1) d (putMid (j * 8) (j * 8 + 8 - j * 8) xs ys)
+    ssybs-turn ys ey = filled-next 8 ssyb-at (λ i. ssyb-length time group (6 * k + i) first) j d xs ys ex ey
+
+    pub ssybs-done : length d ≡ 48 → j ≤ 6 → 6 ≤ j → xs ≡ ssybs first time group k
+    unfolding ssybs
+    ssybs-done e le ge = filled-end 8 ssyb-at j 6 d xs ex e le ge
+
+pub subcode-done : (xs ys zs ws time group : List ℕ) (id : BlockId) (first : Bool) (k : ℕ) (t g : Pack) → length xs ≡ 80 → ys ≡ replicate (length xs) 255 → zs ≡ idBytes id
+    → t ≡ packOf 19 time → g ≡ packOf 20 group → ws ≡ ssybs first t g k
+    → putMid 3 48 (zs ++ postOf 0 3 ys) ws ≡ idBytes id ++ subcodeBytes first (timePack time) (groupPack group) k
+unfolding idBytes subcodeBytes
+subcode-done xs ys zs ws time group id first k t g n ey ez et eg ew = rw (ez, ey, n, ew, et, eg) refl
+
+-- ---- VAUX
+
+module _ (y : System) (q k : ℕ) where
+  abbrev pub pack-at : ℕ → List ℕ
+  pack-at j = packBytes (vauxPack y q (15 * k + j))
+
+  module _ (j : ℕ) (d xs : List ℕ) (ex : Filled 5 pack-at j d xs) where
+    pub packs-turn : (ys : List ℕ) (p : Pack) → p ≡ vauxPack y q (15 * k + j) → ys ≡ packBytes p → Filled 5 pack-at (j + 1) d (putMid (j * 5) (j * 5 + 5 - j * 5) xs ys)
+    packs-turn ys p ep ey = filled-next 5 pack-at (λ i. refl) j d xs ys ex (ey ∙ ap packBytes ep)
+
+    pub packs-done : length d ≡ 75 → j ≤ 15 → 15 ≤ j → xs ≡ vauxPacks y q k
+    unfolding vauxPacks
+    packs-done e le ge = filled-end 5 pack-at j 15 d xs ex e le ge
+
+pub vaux-done : (xs ys zs ws : List ℕ) (id : BlockId) (y : System) (q k : ℕ) → length xs ≡ 80 → ys ≡ replicate (length xs) 255 → zs ≡ idBytes id → ws ≡ vauxPacks y q k
+    → putMid 3 75 (zs ++ postOf 0 3 ys) ws ≡ idBytes id ++ vauxBytes y q k
+unfolding idBytes vauxBytes
+vaux-done xs ys zs ws id y q k n ey ez ew = rw (ez, ey, n, ew) refl
+
+-- ---- audio: the words
+
+-- the number that was read is in 32 bits
+read-back : (xs : List ℤ) (t x : ℕ) → mag (getD xs t (pos 0)) < 2 ^ 31 → x ≡ wordFor (toZ w32 (ofZ w32 (getD xs t (pos 0)))) → x ≡ wordFor (getD xs t (pos 0))
+read-back xs t x low e = rw (toZ-ofZ w32 (getD xs t (pos 0)) (record { sfits = low })) at e
+
+pub word-here : (xs : List ℤ) (t x : ℕ) → t < length xs → mag (getD xs t (pos 0)) < 2 ^ 31 → x ≡ wordFor (toZ w32 (ofZ w32 (getD xs t (pos 0)))) → x ≡ sampleWord xs t
+unfolding sampleWord
+word-here xs t x h low e = read-back xs t x low e ∙ sym (pick-true _ _ (lt-ltb t (length xs) h))
+
+pub word-past : (xs : List ℤ) (t : ℕ) → length xs ≤ t → 0 ≡ sampleWord xs t
+unfolding sampleWord
+word-past xs t h = sym (pick-false _ _ (le-ltb t (length xs) h))
+
+pub sample-word-below : (xs : List ℤ) (t x : ℕ) → x ≡ sampleWord xs t → x < 65536
+unfolding sampleWord
+sample-word-below xs t x e = rw e (pick-either (λ w. w < 65536) _ (word-below (getD xs t (pos 0))) (omega arith))
+
+pub word-for-below : (z : ℤ) (x : ℕ) → x ≡ wordFor z → x < 65536
+word-for-below z x e = rw e (word-below z)
+
+-- word w is sample t = step * w + first
+module _ (xs : List ℤ) (first step t w : ℕ) (at : t ≡ step * w + first) (start : first < step) (turns : step * 35 ≤ length xs) where
+  pub sample-within : w < 35 → t < length xs
+  sample-within h =
+      let l : step * (w + 1) ≤ step * 35 = mul-le-mul-left step (omega arith) in
+      omega arith
+
+  pub sample-next : t + step ≡ step * (w + 1) + first
+  sample-next = omega arith
+
+  pub sample-fits : w < 35 → step ≤ 54 → Fits w64 (t + step)
+  sample-fits h few =
+      let l : step * w ≤ step * 35 = mul-le-mul-left step (omega arith) in
+      omega arith
+
+  module _ (d part : List ℕ) (ex : Filled 2 (wordPair xs first step) w d part) where
+    pub words-turn : (ys : List ℕ) (x : ℕ) → w < 35 → mag (getD xs t (pos 0)) < 2 ^ 31 → x ≡ wordFor (toZ w32 (ofZ w32 (getD xs t (pos 0)))) → ys ≡ bytesOf x
+        → Filled 2 (wordPair xs first step) (w + 1) d (putMid (w * 2) (w * 2 + 2 - w * 2) part ys)
+    unfolding wordPair
+    words-turn ys x h low ew ey =
+        filled-next 2 (wordPair xs first step) (λ i. refl) w d part ys ex
+        (ey ∙ ap bytesOf (word-here xs t x (sample-within h) low ew ∙ ap (sampleWord xs) at))
+
+    pub words-done : (ys : List ℕ) (x : ℕ) → length d ≡ 72 → w ≤ 35 → 35 ≤ w → x ≡ sampleWord xs t → ys ≡ bytesOf x → putMid 70 2 part ys ≡ run (wordPair xs first step) 36
+    unfolding wordPair
+    words-done ys x n le ge ew ey =
+        let e : w ≡ 35 = le-antisymm le ge in
+        let whole : Filled 2 (wordPair xs first step) 35 d part = rw e at ex in
+        let last : ys ≡ wordPair xs first step 35 = ey ∙ ap bytesOf (ew ∙ ap (sampleWord xs) (at ∙ ap (λ (i : ℕ). step * i + first) e)) in
+        filled-end 2 (wordPair xs first step) 36 36 d (putMid 70 2 part ys) (filled-next 2 (wordPair xs first step) (λ i. refl) 35 d part ys whole last) n (omega arith) (omega arith)
+
+-- ---- audio: the samples of a channel
+
+pub samples-lent : (sound : List ℤ) (c count : ℕ) → take ((c - 1) * count + count - (c - 1) * count) (drop ((c - 1) * count) sound) ≡ samplesOf sound c count
+unfolding samplesOf
+samples-lent sound c count = range-part ((c - 1) * count) count sound
+
+module _ (sound : List ℤ) (c count : ℕ) (c1 : 0 < c) (c8 : c < 9) (sounds : length sound ≡ 8 * count) where
+  samples-end : (c - 1) * count + count ≤ 8 * count
+  samples-end = end-within count (c - 1) 8 (omega arith)
+
+  pub samples-within : (c - 1) * count + count ≤ length sound
+  samples-within = omega (arith, samples-end)
+
+  pub samples-fit : count < 2000 → Fits w64 ((c - 1) * count)
+  samples-fit few = omega (arith, samples-end)
+
+  pub samples-end-fits : count < 2000 → Fits w64 ((c - 1) * count + count)
+  samples-end-fits few = omega (arith, samples-end)
+
+  pub samples-bytes-fit : count < 2000 → Fits w64 ((c - 1) * count * 4)
+  samples-bytes-fit few = omega (arith, samples-end)
+
+  pub samples-length : length (samplesOf sound c count) ≡ count
+  unfolding samplesOf
+  samples-length = length-part ((c - 1) * count) count sound samples-within
+
+  samples-at : (t : ℕ) → t < count → getD (samplesOf sound c count) t (pos 0) ≡ getD sound ((c - 1) * count + t) (pos 0)
+  unfolding samplesOf
+  samples-at t h = getD-take count (drop ((c - 1) * count) sound) t (pos 0) h ∙ getD-drop ((c - 1) * count) sound t (pos 0)
+
+  -- their words are those that are stored
+  pub samples-stored : (l : Lent) (t : ℕ) → l .count ≡ count → l .sound ≡ sound → sampleWord (samplesOf sound c count) t ≡ storedWord l c t
+  unfolding sampleWord storedWord
+  samples-stored l t en es =
+      by-lt t count
+      (λ h.
+      pick-true _ _ (lt-ltb t _ (omega (arith, samples-length)))
+      ∙ ap wordFor (samples-at t h)
+      ∙ rw (← es, ← en) (sym (pick-true _ _ (lt-ltb t (l .count) (omega (arith, en))))))
+      (λ h. pick-false _ _ (le-ltb t _ (omega (arith, samples-length))) ∙ sym (pick-false _ _ (le-ltb t (l .count) (omega (arith, en)))))
+
+-- ---- audio: the block
+
+module _ (xs : List ℕ) (y : System) (h q count a : ℕ) (sound : List ℤ) (asked : AudioAsked xs y h q count sound a) (s : ℕ) (es : s ≡ halfOf y) where
+  half : Half s
+  half = subst Half (sym es) (half-cases y)
+
+  below : q < 2 * s
+  below = omega (arith, asked .sequence, half-twice y, es)
+
+  pub channel-asked : ChannelAsked s h q
+  channel-asked = record { half = half; channel = asked .channel; sequence = below }
+
+  module _ (c : ℕ) (ec : c ≡ audioAt s h q) where
+    within : (0 < c) × (c < 9)
+    within = rw ec (audio-within s h q half below (asked .channel))
+
+    pub samples-asked : SamplesAsked sound c count
+    samples-asked = record {
+      above = within .0;
+      below = within .1;
+      counted = omega (arith, count-below y count (asked .counts), positions-le y);
+      sounds = asked .sounds;
+    }
+
+    module _ (samples : List ℤ) (em : samples ≡ samplesOf sound c count) (first : ℕ) (ef : first ≡ firstAt (halfOf y) (rowAt (halfOf y) q) (a % 9)) where
+      first-is : first ≡ firstAt s (rowAt s q) a
+      first-is = ef ∙ rw (← es, mod-eq-of-lt (asked .below)) refl
+
+      pub words-asked : (part : List ℕ) → length part ≡ 72 → WordsAsked part samples first (9 * s)
+      words-asked part n =
+          let len : length samples ≡ count = ap length em ∙ samples-length sound c count (within .0) (within .1) (asked .sounds) in
+          let turns : 9 * halfOf y * 35 ≤ count = count-turns y count (asked .counts) in
+          record {
+            long = n;
+            turns = omega (arith, len, rw (← es) at turns);
+            start = rw first-is (first-below s half (rowAt s q) a (mod-lt q (half-some s half)) (asked .below));
+            few = omega (arith, half-le s half);
+          }
+
+      words-are : (macroblocks time group : List ℕ)
+          → run (wordPair samples first (9 * s)) 36 ≡ run (wordBytes y (lent count sound macroblocks time group) h q a) 36
+      unfolding wordPair wordBytes
+      words-are macroblocks time group =
+          run-same _ _ 36 (λ w hw.
+          rw (em, first-is, ← es, ← ec)
+          (ap bytesOf (samples-stored sound c count (within .0) (within .1) (asked .sounds) (lent count sound macroblocks time group) (9 * s * w + firstAt s (rowAt s q) a) refl refl)))
+
+      pub audio-done : (zs ps ws macroblocks time group : List ℕ) (id : BlockId) (p : Pack) → zs ≡ idBytes id → p ≡ aauxPack y count c q a → ps ≡ packBytes p
+          → ws ≡ run (wordPair samples first (9 * s)) 36
+          → putMid 8 72 (putMid 3 5 (zs ++ postOf 0 3 xs) ps) ws ≡ idBytes id ++ audioBytes y (lent count sound macroblocks time group) h q a
+      unfolding idBytes audioBytes
+      audio-done zs ps ws macroblocks time group id p ez ep eps ew =
+          let rest : drop 72 (drop 5 (drop 3 xs)) ≡ [] = ap (drop 72) (drop-drop 5 3 xs) ∙ drop-drop 72 8 xs ∙ none-left 80 xs (asked .long) in
+          rw (ez, eps, rest, append-nil, ew, words-are macroblocks time group, ep, ec, es) refl
+
+-- ---- video
+
+-- a turn of the copy, and its end
+pub copy-turn : (s d xs : List ℕ) (i : ℕ) → xs ≡ take i s ++ drop i d → length s ≡ 77 → length d ≡ 77 → i < 77 → set xs i (getD s i 0) ≡ take (i + 1) s ++ drop (i + 1) d
+copy-turn s d xs i e n m h =
+    let hs : i < length s = omega arith in
+    let hd : 0 + i < length d = omega arith in
+    rw (e, add-one) (simp zero-add at (paste-suc d 0 s i 0 hd hs))
+
+pub copy-next : (s d xs : List ℕ) (i : ℕ) → xs ≡ take i s ++ drop i d → length s ≡ 77 → length d ≡ 77 → i < 76 → set xs i (getD s i 0) ≡ take (i + 1) s ++ drop (i + 1) d
+copy-next s d xs i e n m h = copy-turn s d xs i e n m (omega arith)
+
+pub copy-done : (s d xs : List ℕ) (i : ℕ) → xs ≡ take i s ++ drop i d → length s ≡ 77 → length d ≡ 77 → i ≤ 76 → 76 ≤ i → set xs 76 (getD s 76 0) ≡ s
+copy-done s d xs i e n m le ge =
+    let same : i ≡ 76 = le-antisymm le ge in
+    let all : take 77 s ≡ s = take-all 77 s (omega arith) in
+    copy-turn s d xs 76 (e ∙ rw same refl) n m (omega arith) ∙ rw (all, none-left 77 d m) (append-nil s)
+
+module _ (xs : List ℕ) (y : System) (h q v : ℕ) (macroblocks : List ℕ) (asked : VideoAsked xs y macroblocks) (r : Carried) (er : r ≡ carriedIn y (slot h q v)) where
+  -- the macroblock that is carried is within those that are lent
+  pub macroblock-within : (b : ℕ) → r ≡ Macroblock b → 77 * b + 77 ≤ length macroblocks
+  macroblock-within b e = omega (arith, asked .pictures, carried-lies y (slot h q v) b (sym er ∙ e) .0)
+
+  pub macroblock-done : (zs ws : List ℕ) (id : BlockId) (b : ℕ) → r ≡ Macroblock b → zs ≡ idBytes id → ws ≡ take (77 * b + 77 - 77 * b) (drop (77 * b) macroblocks)
+      → putMid 3 77 (zs ++ postOf 0 3 xs) ws ≡ idBytes id ++ carriedBytes macroblocks (carriedIn y (slot h q v))
+  unfolding idBytes carriedBytes
+  macroblock-done zs ws id b e ez ew =
+      let rest : drop 77 (drop 3 xs) ≡ [] = drop-drop 77 3 xs ∙ none-left 80 xs (asked .long) in
+      rw (ez, rest, append-nil, ← er, e, ew, range-part (77 * b) 77 macroblocks, tab-part 0 macroblocks (77 * b) 77 (macroblock-within b e)) refl
+
+  pub empty-done : (zs part ws : List ℕ) (id : BlockId) → r ≡ Nothing → zs ≡ idBytes id → length part ≡ 77 → ws ≡ replicate (length part) 255
+      → putMid 3 77 (zs ++ postOf 0 3 xs) ws ≡ idBytes id ++ carriedBytes macroblocks (carriedIn y (slot h q v))
+  unfolding idBytes carriedBytes
+  empty-done zs part ws id e ez n ew =
+      let rest : drop 77 (drop 3 xs) ≡ [] = drop-drop 77 3 xs ∙ none-left 80 xs (asked .long) in
+      rw (ez, rest, append-nil, ← er, e, ew, n) refl

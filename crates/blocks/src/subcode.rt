@@ -1,0 +1,71 @@
+// The subcode blocks: six SSYBs each.
+ghost use mathlib.Core.Path.{_≡_};
+ghost use mathlib.Core.List.{_++_};
+ghost use lib.ListN.{length};
+ghost use Rattle.base.specs.Pick.{pick};
+ghost use Rattle.rules.specs.Ids.{idBytes};
+ghost use Rattle.rules.specs.TimeCode.{timePack, groupPack};
+ghost use Rattle.rules.specs.Subcode.{frByte, ssyb, ssybs, subcodeBytes};
+ghost use Rattle.blocks.specs.Asked.{SsybAsked, SsybsAsked, NumberAsked};
+ghost use Rattle.blocks.specs.Fits.{numberFits};
+use crate::parts;
+use layout::BLOCK;
+use rules::BlockId;
+use rules::Pack;
+
+// ID0 of an SSYB: FR, and ones.
+fn fr_byte(first: bool) -> u8
+    ensures { λ r. ⌜ r ≡ frByte first ⌝ }
+{
+    if first { 0xFF } else { 0x7F }
+}
+
+fn put_ssyb(part: &mut [u8], first: bool, time: Pack, group: Pack, k: u32)
+    requires { ⌜ SsybAsked (now part) k ⌝ }
+    ensures { λ _. ⌜ now (part .exit) ≡ ssyb first time group k ⌝ }
+{
+    parts::put_three(&mut part[0..3], fr_byte(first), (0xF0 + k) as u8, 0xFF);
+    parts::put_pack(
+        &mut part[3..8],
+        packs::subcode_pack(packs::kind_of(first, k), time, group),
+    );
+}
+
+// The six SSYBs of SC(k).
+fn put_ssybs(part: &mut [u8], first: bool, time: Pack, group: Pack, k: u32)
+    requires { ⌜ SsybsAsked (now part) k ⌝ }
+    ensures { λ _. ⌜ now (part .exit) ≡ ssybs first time group k ⌝ }
+{
+    let mut j: u32 = 0;
+    while j < 6 {
+        let at = (j as usize) * 8;
+        let to = at + 8;
+        put_ssyb(&mut part[at..to], first, time, group, 6 * k + j);
+        j += 1;
+    }
+}
+
+fn write_subcode(block: &mut [u8], id: BlockId, first: bool, time: &[u8], group: &[u8], k: u32)
+    requires { ⌜ NumberAsked (now block) k 2 ⌝ }
+    ensures { λ _. ⌜ now (block .exit) ≡ idBytes id ++ subcodeBytes first (timePack (now (time .entry))) (groupPack (now (group .entry))) k ⌝ }
+{
+    base::fill(block, 0xFF);
+    parts::put_id(&mut block[0..3], id);
+    put_ssybs(
+        &mut block[3..51],
+        first,
+        packs::pack_of(0x13, time),
+        packs::pack_of(0x14, group),
+        k,
+    );
+}
+
+// SC(k) of any part; one that is no block, or not that of k, stays as it is.
+pub fn put_subcode(block: &mut [u8], id: BlockId, first: bool, time: &[u8], group: &[u8], k: u32)
+    ensures { λ _. ⌜ now (block .exit) ≡ pick (numberFits (length (now (block .entry))) k 2) (idBytes id ++ subcodeBytes first (timePack (now (time .entry))) (groupPack (now (group .entry))) k) (now (block .entry)) ⌝ }
+{
+    let fits = (block.len() == BLOCK) & (k < 2);
+    if fits {
+        write_subcode(block, id, first, time, group, k);
+    }
+}

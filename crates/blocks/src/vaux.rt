@@ -1,0 +1,46 @@
+// The VAUX blocks: fifteen packs each.
+ghost use mathlib.Core.Path.{_≡_};
+ghost use mathlib.Core.List.{_++_};
+ghost use lib.ListN.{length};
+ghost use Rattle.base.specs.Pick.{pick};
+ghost use Rattle.rules.specs.Ids.{idBytes};
+ghost use Rattle.rules.specs.Vaux.{vauxPacks, vauxBytes};
+ghost use Rattle.blocks.specs.Asked.{PacksAsked, NumberAsked};
+ghost use Rattle.blocks.specs.Fits.{numberFits};
+use crate::parts;
+use layout::BLOCK;
+use rules::BlockId;
+use rules::System;
+
+// The fifteen packs of VA(k).
+fn put_packs(part: &mut [u8], y: System, q: u32, k: u32)
+    requires { ⌜ PacksAsked (now part) k ⌝ }
+    ensures { λ _. ⌜ now (part .exit) ≡ vauxPacks y q k ⌝ }
+{
+    let mut j: u32 = 0;
+    while j < 15 {
+        let at = (j as usize) * 5;
+        let to = at + 5;
+        parts::put_pack(&mut part[at..to], packs::vaux_pack(y, q, 15 * k + j));
+        j += 1;
+    }
+}
+
+fn write_vaux(block: &mut [u8], id: BlockId, y: System, q: u32, k: u32)
+    requires { ⌜ NumberAsked (now block) k 3 ⌝ }
+    ensures { λ _. ⌜ now (block .exit) ≡ idBytes id ++ vauxBytes y q k ⌝ }
+{
+    base::fill(block, 0xFF);
+    parts::put_id(&mut block[0..3], id);
+    put_packs(&mut block[3..78], y, q, k);
+}
+
+// VA(k) of any part; one that is no block, or not that of k, stays as it is.
+pub fn put_vaux(block: &mut [u8], id: BlockId, y: System, q: u32, k: u32)
+    ensures { λ _. ⌜ now (block .exit) ≡ pick (numberFits (length (now (block .entry))) k 3) (idBytes id ++ vauxBytes y q k) (now (block .entry)) ⌝ }
+{
+    let fits = (block.len() == BLOCK) & (k < 3);
+    if fits {
+        write_vaux(block, id, y, q, k);
+    }
+}

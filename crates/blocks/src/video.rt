@@ -1,0 +1,68 @@
+// The video blocks: 77 bytes of a macroblock, or none.
+ghost use mathlib.Core.Path.{_≡_};
+ghost use mathlib.Core.List.{_++_};
+ghost use lib.ListN.{length};
+ghost use Rattle.base.specs.Pick.{pick};
+ghost use Rattle.rules.specs.Ids.{idBytes};
+ghost use Rattle.rules.specs.Picture.{slot, carriedIn};
+ghost use Rattle.rules.specs.Written.{carriedBytes};
+ghost use Rattle.blocks.specs.Asked.{CopyAsked, VideoAsked};
+ghost use Rattle.blocks.specs.Fits.{videoFits};
+use crate::parts;
+use layout::BLOCK;
+use rules::BlockId;
+use rules::Carried;
+use rules::System;
+
+// 77 bytes from one part to another. The length is written out and the odd byte stands by itself, for the sake of the loop.
+fn copy_macroblock(part: &mut [u8], from: &[u8])
+    requires { ⌜ CopyAsked (now part) (now from) ⌝ }
+    ensures { λ _. ⌜ now (part .exit) ≡ now (from .entry) ⌝ }
+{
+    let mut i = 0;
+    while i < 76 {
+        part[i] = from[i];
+        i += 1;
+    }
+    part[76] = from[76];
+}
+
+fn write_video(block: &mut [u8], id: BlockId, y: System, h: u32, q: u32, macroblocks: &[u8], v: u32)
+    requires { ⌜ VideoAsked (now block) y (now macroblocks) ⌝ }
+    ensures { λ _. ⌜ now (block .exit) ≡ idBytes id ++ carriedBytes (now (macroblocks .entry)) (carriedIn y (slot h q v)) ⌝ }
+{
+    parts::put_id(&mut block[0..3], id);
+    match picture::carried(y, h, q, v) {
+        Carried::Macroblock(b) => {
+            let at = 77 * (b as usize);
+            let to = at + 77;
+            copy_macroblock(&mut block[3..80], &macroblocks[at..to]);
+        }
+        Carried::Nothing => base::fill(&mut block[3..80], 0xFF),
+    }
+}
+
+// What is lent fits the system.
+fn video_fits(size: usize, y: System, bytes: usize) -> bool
+    ensures { λ r. ⌜ r ≡ videoFits size y bytes ⌝ }
+{
+    (size == BLOCK) & (bytes == 77 * (layout::macroblocks(y) as usize))
+}
+
+// V(v) of any part; one that does not fit stays as it is.
+pub fn put_video(
+    block: &mut [u8],
+    id: BlockId,
+    y: System,
+    h: u32,
+    q: u32,
+    macroblocks: &[u8],
+    v: u32,
+)
+    ensures { λ _. ⌜ now (block .exit) ≡ pick (videoFits (length (now (block .entry))) y (length (now (macroblocks .entry)))) (idBytes id ++ carriedBytes (now (macroblocks .entry)) (carriedIn y (slot h q v))) (now (block .entry)) ⌝ }
+{
+    let fits = video_fits(block.len(), y, macroblocks.len());
+    if fits {
+        write_video(block, id, y, h, q, macroblocks, v);
+    }
+}
