@@ -1,5 +1,5 @@
--- The demands are met. Each theorem is of any answer that the contracts of the public calls allow, and cites its workshop.
--- What they say is in `specs/Statements` and `specs/Known`. Assumes nothing.
+-- The demands are met, of any answer that the contracts of the public calls allow. Each theorem cites its workshop; what it says is in
+-- `specs/Statements`; the known places, the printed rows and the numbers of document 01 in `specs/Known`, `Rows` and `Numbers`. Assumes nothing.
 use mathlib.Core.Path.{_≡_}
 use mathlib.Core.Bool.{true}
 use mathlib.Core.List.{List}
@@ -12,7 +12,6 @@ use Rattle.rules.specs.declared.SystemNumber.the-variants.{Known}
 use Rattle.rules.specs.declared.Survey.{Survey}
 use Rattle.rules.specs.Systems.{sequencesOf, positionsOf, isCount, macroblocksOf, systemOf}
 use Rattle.rules.specs.Samples.{lost}
-use Rattle.rules.specs.Faults.{faultAt, NamesPlace}
 use Rattle.rules.specs.Survey.{FrameSurveyed}
 use Rattle.rules.specs.Audio.{isAudio}
 use Rattle.rules.specs.Salvage.{Salvaged}
@@ -20,16 +19,17 @@ use Rattle.rules.specs.Written.{Lent}
 use Rattle.rules.specs.Write.{Wrote, Takes}
 use Rattle.rules.specs.Rows.{rowsAgree, printedRows}
 use Rattle.rules.specs.Known.{all, table}
+use Rattle.rules.specs.Numbers.{InNumbers}
 use Rattle.rules.specs.Statements.{EveryCall, Strict, StrictlyRead, ReadOut, ReadsBack, WritesBack, SampleSalvaged, Listed, Salvages, tone}
 use Rattle.rules.proofs.Picture.{rows-agree}
-use Rattle.rules.proofs.Faults.{fault-names, names-fault}
 use Rattle.rules.proofs.Known.{table-agrees}
+use Rattle.rules.proofs.Numbers.{in-numbers}
 use Rattle.rules.proofs.Answering.{every-call}
 use Rattle.rules.proofs.ReadingBack.{read-out, writes-back, strict-decided}
 use Rattle.rules.proofs.Salvaging.{survey-lists, salvages, salvage-decided}
 use Rattle.rules.proofs.Worthless.{tone-taken, one-for-two, frame-for-two, all-lost}
 
--- ---- the rules: the known places of document 01, the printed rows of tables 22 to 24, and what it is to name a place
+-- ---- the rules: the known places of document 01, the printed rows of tables 22 to 24, and what the demands stand on in document 01's numbers
 
 pub known-places : T (all table)
 known-places = table-agrees
@@ -37,8 +37,8 @@ known-places = table-agrees
 pub printed-rows : T (rowsAgree printedRows)
 printed-rows = rows-agree
 
-pub names-place : (block : List ℕ) (h q p : ℕ) → (faultAt block h q p ≡ 0 → NamesPlace block h q p) × (NamesPlace block h q p → faultAt block h q p ≡ 0)
-names-place block h q p = (fault-names block h q p, names-fault block h q p)
+pub rules-in-numbers : InNumbers
+rules-in-numbers = in-numbers
 
 -- ---- 1: every public call, on every input
 
@@ -76,7 +76,7 @@ pub demand-3-surveys : (k : ℕ) {y : System} {g list list′ : List ℕ} {r : S
     → (r .number ≡ 0) × Listed y g list r list′
 demand-3-surveys = survey-lists
 
--- ---- the premises can be met, for each system and count, and no worthless build meets the demands
+-- ---- the premises can be met, for each system and count; and what the demands refute
 
 module _ (y : System) (count : ℕ) (own : isCount y count ≡ true) where
   pub not-all-refused : Takes y (tone y count 5) (48000 * sequencesOf y)

@@ -85,7 +85,7 @@ module _ (id : List ℕ) (three : length id ≡ 3) where
   sources-written y (suc (suc (suc zero))) h = rw (behind-id id (headerBytes y) 4 three) refl
   sources-written y (suc (suc (suc (suc k)))) h = absurd (omega arith)
 
-  -- "Bytes 5, 6, 7: bit 7 is TF1, TF2, TF3; .. 0 is written."
+  -- "Bytes 5, 6, 7: bit 7 is TF1 .., TF2 .., TF3 ..; .. 0 is written."
   pub flags-written : (y : System) (k : ℕ) → 0 < k → k < 4 → flagged k (id ++ headerBytes y) ≡ false
   unfolding headerBytes
   flags-written y zero l h = absurd (omega arith)

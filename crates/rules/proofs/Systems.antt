@@ -21,7 +21,7 @@ system-number I50 = refl
 system-number P60 = refl
 system-number P50 = refl
 
--- "a number above 3 is no system"
+-- 1: "system above 3"
 pub system-above : (k : ℕ) → 3 < k → systemOf k ≡ NoSystem
 unfolding systemOf pick
 system-above k h =

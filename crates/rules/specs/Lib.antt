@@ -31,4 +31,5 @@ pub mod Written
 pub mod Write
 pub mod Rows
 pub mod Known
+pub mod Numbers
 pub mod Statements

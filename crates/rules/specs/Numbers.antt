@@ -1,0 +1,49 @@
+-- The rules that the demands stand on, in document 01's own numbers, apart from the definitions that the rest is written in.
+use mathlib.Core.Path.{_≡_}
+use mathlib.Core.Bool.{true, false, _||_}
+use mathlib.Core.List.{List}
+use Prim.Native.Nat.{ℕ, _+_, _-_, _*_, _/_, _%_, _<_}
+use lib.Dec.{eqb, leb}
+use lib.IntN.{pos, negsuc}
+use lib.ListN.{take, drop}
+use Rattle.rules.specs.declared.System.{System}
+use Rattle.rules.specs.declared.System.the-variants.{I60, I50, P60, P50}
+use Rattle.rules.specs.declared.SystemNumber.the-variants.{Known, NoSystem}
+use Rattle.rules.specs.declared.Section.the-variants.{Header, Subcode, Vaux, Audio, Video}
+use Rattle.rules.specs.Systems.{sequencesOf, halfOf, positionsOf, isCount, macroblocksOf, systemOf}
+use Rattle.rules.specs.Places.{sectionOf}
+use Rattle.rules.specs.Ids.{channelOf}
+use Rattle.rules.specs.Samples.{inRange, backOf}
+use Rattle.rules.specs.Sound.{byteOf}
+use Rattle.rules.specs.Faults.{NamesPlace}
+use Rattle.rules.specs.Stream.{named}
+use Rattle.rules.specs.Reading.{soundBlock, soundNamed}
+
+-- a row of the table of systems
+pub record Numbers (k : ℕ) (y : System) (n positions macroblocks : ℕ) : Type 0 where
+  pub system : systemOf k ≡ Known y
+  pub numbers : (sequencesOf y ≡ n) × (positionsOf y ≡ positions) × (macroblocksOf y ≡ macroblocks)
+
+-- the block of position t of audio channel c in the stream: "channel c lies in DIF channel (c-1) div 2; odd c in the first n/2 sequences, even c in
+-- the rest"; "sequence (t div 3 + 2(t mod 3)) mod s, plus s for even c; audio block 3(t mod 3) + (t mod 9s) div 3s"; "place 6+16a is A(a)"
+abbrev pub soundIndex : ℕ → ℕ → ℕ → ℕ → ℕ
+soundIndex n s c t = (n * ((c - 1) / 2) + (s * ((c + 1) % 2) + (t / 3 + 2 * (t % 3)) % s)) * 150 + (6 + 16 * (3 * (t % 3) + t % (9 * s) / (3 * s)))
+
+pub record InNumbers : Type 0 where
+  -- "Each system brings its own four numbers."
+  pub systems : Numbers 0 I60 10 1620 5400 × Numbers 1 I50 12 1944 6075 × Numbers 2 P60 10 1620 5400 × Numbers 3 P50 12 1944 5400
+  pub counts : (y : System) (k : ℕ) → (sequencesOf y ≡ 10 → isCount y k ≡ (eqb k 1600 || eqb k 1602)) × (sequencesOf y ≡ 12 → isCount y k ≡ (eqb k 1920 || eqb k 1920))
+  -- 1: "system above 3"
+  pub no-system : (k : ℕ) → 3 < k → systemOf k ≡ NoSystem
+  -- "0 header, 1 subcode, 2 VAUX, 3 audio, 4 video"; "(FSC, FSP) = (0,1), (1,1), (0,0), (1,0) is channel 0, 1, 2, 3"
+  pub sections : (sectionOf 0 ≡ Header) × (sectionOf 1 ≡ Subcode) × (sectionOf 2 ≡ Vaux) × (sectionOf 3 ≡ Audio) × (sectionOf 4 ≡ Video)
+  pub channels : (channelOf 0 1 ≡ 0) × (channelOf 1 1 ≡ 1) × (channelOf 0 0 ≡ 2) × (channelOf 1 0 ≡ 3)
+  -- "A block names its place when section, channel, Dseq and DBN all do.": block j of the stream
+  pub names : (y : System) (g : List ℕ) (j : ℕ) → named y g j ≡ true → NamesPlace (take 80 (drop (j * 80) g)) (j / 150 / sequencesOf y) (j / 150 % sequencesOf y) (j % 150)
+  pub names-not : (y : System) (g : List ℕ) (j : ℕ) → named y g j ≡ false → NamesPlace (take 80 (drop (j * 80) g)) (j / 150 / sequencesOf y) (j / 150 % sequencesOf y) (j % 150) → ⊥
+  -- the block and the byte of a sample
+  pub sound : (y : System) (g : List ℕ) (c t : ℕ) → (soundNamed y g c t ≡ named y g (soundIndex (sequencesOf y) (sequencesOf y / 2) c t))
+      × (soundBlock y g c t ≡ take 80 (drop (soundIndex (sequencesOf y) (sequencesOf y / 2) c t * 80) g)) × (byteOf (halfOf y) t ≡ 8 + 2 * (t / (9 * (sequencesOf y / 2))))
+  -- "a sample outside -32,768 to 32,768"; "a level of -32,768 comes back as -32,767"
+  pub range : (n : ℕ) → (inRange (pos n) ≡ leb n 32768) × (inRange (negsuc n) ≡ leb n 32767)
+  pub back : (n : ℕ) → (backOf (pos n) ≡ pos n) × (n < 32767 → backOf (negsuc n) ≡ negsuc n) × (backOf (negsuc 32767) ≡ negsuc 32766)
