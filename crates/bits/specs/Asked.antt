@@ -1,8 +1,8 @@
 -- What the functions say.
 use mathlib.Core.Path.{_≡_}
 use mathlib.Core.List.{List}
-use Prim.Native.Nat.{ℕ, _+_, _*_, _<_}
-use lib.ListN.{getD}
+use Prim.Native.Nat.{ℕ, _+_, _*_, _≤_, _<_}
+use lib.ListN.{length, getD}
 use Rattle.rules.specs.Judging.{judgedBits}
 
 -- the first three bytes of a block are bytes
@@ -21,3 +21,8 @@ pub record Word (block : List ℕ) (r : ℕ) : Type 0 where
 pub record Judged (block : List ℕ) (r : ℕ) : Type 0 where
   pub bits : r ≡ judgedBits block
   pub id : IdBytes block
+
+-- or 0, of a block of fewer than four bytes
+pub record JudgedBlock (block : List ℕ) (r : ℕ) : Type 0 where
+  pub long : 4 ≤ length block → Judged block r
+  pub short : length block < 4 → r ≡ 0

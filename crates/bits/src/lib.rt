@@ -1,24 +1,29 @@
 // The judged bits of a block's ID as one number, and those that DIF channel and sequence give.
 ghost use mathlib.Core.Path.{_≡_};
-ghost use Prim.Native.Nat.{_%_};
+ghost use Prim.Native.Nat.{_%_, _≤_};
+ghost use lib.ListN.{length};
 ghost use Rattle.rules.specs.Judging.{keyOf};
-ghost use Rattle.bits.specs.Asked.{Word, Judged};
+ghost use Rattle.bits.specs.Asked.{Word, JudgedBlock};
 
-// The first four bytes of a block as one number, the first lowest; 0 past its end.
+// The first four bytes of a block as one number, the first lowest.
 fn word(block: &[u8]) -> u32
+    requires { ⌜ 4 ≤ length (now block) ⌝ }
     ensures { λ r. ⌜ Word (now (block .entry)) r ⌝ }
 {
-    let byte0 = base::wide(base::byte_at(block, 0));
-    let byte1 = base::wide(base::byte_at(block, 1));
-    let byte2 = base::wide(base::byte_at(block, 2));
-    let byte3 = base::wide(base::byte_at(block, 3));
+    let byte0 = base::wide(block[0]);
+    let byte1 = base::wide(block[1]);
+    let byte2 = base::wide(block[2]);
+    let byte3 = base::wide(block[3]);
     byte0 + 256 * byte1 + 65536 * byte2 + 16777216 * byte3
 }
 
-// The judged bits of a block's ID.
+// The judged bits of a block's ID; 0 of a block of fewer than four bytes.
 pub fn judged(block: &[u8]) -> u32
-    ensures { λ r. ⌜ Judged (now (block .entry)) r ⌝ }
+    ensures { λ r. ⌜ JudgedBlock (now (block .entry)) r ⌝ }
 {
+    if block.len() < 4 {
+        return 0;
+    }
     word(block) & 0xFFFCE0
 }
 

@@ -28,7 +28,7 @@ use Rattle.rules.proofs.Systems.{sequences-le, sequences-some}
 use Rattle.rules.proofs.Judging.{printed-below, key-below}
 use Rattle.rules.proofs.Places.{printed-at}
 use Rattle.rules.proofs.Records.{more-after}
-use Rattle.bits.specs.Asked.{Judged}
+use Rattle.bits.specs.Asked.{JudgedBlock}
 use Rattle.noting.specs.Asked.{BlockAsked, PartAsked}
 use Rattle.noting.proofs.Noting.{clean-block, key-in}
 use Rattle.surveys.specs.Asked.{wholeFaults}
@@ -60,7 +60,7 @@ module _ (part : List ℕ) (h q p : ℕ) (a : PartAsked part h q 0) (l : p < 150
         few = omega arith;
       }
 
-  pub clean-place : (good : Bool) (bits : ℕ) → Clean good (run (placeFaults part h q) p) → Judged (take (p * 80 + 80 - p * 80) (drop (p * 80) part)) bits
+  pub clean-place : (good : Bool) (bits : ℕ) → Clean good (run (placeFaults part h q) p) → JudgedBlock (take (p * 80 + 80 - p * 80) (drop (p * 80) part)) bits
       → Clean (good && eqb bits (getD table p 0 + k)) (run (placeFaults part h q) (p + 1))
   unfolding blockIn blockFaults
   clean-place good bits m j =

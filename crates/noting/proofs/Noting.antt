@@ -21,17 +21,18 @@ use Rattle.rules.proofs.Judging.{judged-names, printed-below, key-below}
 use Rattle.rules.proofs.Places.{printed-at, entry-printed}
 use Rattle.rules.proofs.Faults.{places-le}
 use Rattle.rules.proofs.Records.{noted-none, noted-turn}
-use Rattle.bits.specs.Asked.{Judged}
+use Rattle.bits.specs.Asked.{JudgedBlock}
 use Rattle.noting.specs.Asked.{InSequence, BlockAsked, PartAsked}
 
 -- ---- the judged bits
 
 -- judged bits that are the place's
-pub clean-block : {block : List ℕ} {h q p e k t r : ℕ} → BlockAsked block h q p e k t → Judged block r → r ≡ e + k → faultAt block h q p ≡ 0
+pub clean-block : {block : List ℕ} {h q p e k t r : ℕ} → BlockAsked block h q p e k t → JudgedBlock block r → r ≡ e + k → faultAt block h q p ≡ 0
 clean-block {block} {h} {q} {p} {e} {k} {t} {r} a j s =
-    let i = j .id in
+    let g = j .long (a .long) in
+    let i = g .id in
     judged-names block h q p (omega (arith, a .long)) (i .byte0) (i .byte1) (i .byte2) (a .sequence .channel) (a .sequence .sequence) (a .below)
-    (sym (j .bits) ∙ s ∙ rw (a .entry, a .key) refl)
+    (sym (g .bits) ∙ s ∙ rw (a .entry, a .key) refl)
 
 -- what DIF channel and sequence give, for a number that Dseq can hold
 pub key-in : (h q k : ℕ) → InSequence h q → k ≡ keyOf h (q % 16) → k ≡ keyOf h q
@@ -48,7 +49,7 @@ unfolding blockFaults pick
 no-record block h q p t list z = rw (eq-eqb _ _ z) (noted-none list t)
 
 module _ (block : List ℕ) (h q : ℕ) (p : Place) (e k t : ℕ) (list : List ℕ) (a : BlockAsked block h q (p .0) e k t) where
-  pub bits-clean : (r : ℕ) → Judged block r → r ≡ e + k → Noted list t (blockFaults block h q (p .0)) list t
+  pub bits-clean : (r : ℕ) → JudgedBlock block r → r ≡ e + k → Noted list t (blockFaults block h q (p .0)) list t
   bits-clean r j s = no-record block h q (p .0) t list (clean-block a j s)
 
   -- i is the answer to the ID, w the entry of the place and f the fault

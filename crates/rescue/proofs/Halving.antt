@@ -27,9 +27,11 @@ use Rattle.rules.proofs.Sound.{half-le, audio-below, row-sequence, sequence-bel
 use Rattle.rules.proofs.Halves.{half-start, rows-le}
 use Rattle.noting.specs.Asked.{nextFaults}
 use Rattle.noting.proofs.Next.{next-inside}
-use Rattle.rescue.specs.Taken.{heldWord, heldBlock, heldPart, heldSample, Between, samplesFit, samplesLeft, rowSequence, rowFaults, halfFaults}
-use Rattle.rescue.specs.Asked.{PartAsked, RowAsked, HalfAsked, HalfSalvaged}
-use Rattle.rescue.proofs.Between.{between-none, between-next, between-same, between-all}
+use Rattle.words.specs.Taken.{heldWord, heldBlock, heldPart, Between, blocksTaken}
+use Rattle.words.proofs.Between.{between-none, between-next, between-same, between-all}
+use Rattle.words.proofs.Ways.{nine-taken}
+use Rattle.rescue.specs.Taken.{heldSample, samplesFit, samplesLeft, rowSequence, rowFaults, halfFaults}
+use Rattle.rescue.specs.Asked.{RowAsked, HalfAsked, HalfSalvaged}
 
 -- ---- a sequence's sample is the frame's
 
@@ -84,13 +86,12 @@ module _ (frame : List ℕ) (y : System) (i r : ℕ) (asked : RowAsked frame y i
   row-long : length (sequenceAt y frame (difOf (i + 1)) (rowSequence y i r)) ≡ 12000
   row-long = sequence-length y frame (difOf (i + 1)) (rowSequence y i r) (asked .whole) h-below (q-below y i r (halfOf y) refl (asked .row))
 
-  pub part-asked : (n : ℕ) → n ≤ positionsOf y → PartAsked part y n
-  part-asked n l = record { whole = ap length ep ∙ row-long; room = l }
-
   module _ (q : ℕ) (eq : q ≡ rowSequence y i r) where
-    pub row-taken : (before now : List ℤ) → Between (halfOf y) (9 * rowAt (halfOf y) q) (9 * rowAt (halfOf y) q + 9) (heldPart (halfOf y) part (i / 2) q) before now
+    pub row-taken : (before now : List ℤ) → length before ≤ positionsOf y
+        → Between (halfOf y) (9 * rowAt (halfOf y) q) (9 * rowAt (halfOf y) q + blocksTaken y (length part) (length before)) (heldPart (halfOf y) part (i / 2) q) before now
         → Between (halfOf y) (9 * r) (9 * r + 9) (heldSample y frame (i + 1)) before now
-    row-taken before now p =
+    row-taken before now room b =
+        let p = rw (nine-taken y (length part) (length before) (ap length ep ∙ row-long) room) at b in
         let s = halfOf y in
         let er : rowAt s (rowSequence y i r) ≡ r = row-sequence s (i + 1) r (half-cases y) (asked .row) in
         let p′ : Between s (9 * r) (9 * r + 9) (heldPart s (sequenceAt y frame (difOf (i + 1)) (rowSequence y i r)) (difOf (i + 1)) (rowSequence y i r)) before now =

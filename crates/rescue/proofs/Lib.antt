@@ -1,4 +1,2 @@
-pub mod Between
-pub mod Ways
 pub mod Halving
 pub mod Whole

@@ -30,9 +30,9 @@ use Rattle.rules.proofs.Records.{noted-turn}
 use Rattle.rules.proofs.Halves.{faults-halves, halves-le}
 use Rattle.rules.proofs.Calls.{survey-done, survey-stopped}
 use Rattle.noting.specs.Asked.{tallied}
+use Rattle.words.proofs.Between.{between-all}
 use Rattle.rescue.specs.Taken.{heldSample, halfSamples, halfFaults}
 use Rattle.rescue.specs.Asked.{HalfAsked, HalfSalvaged, FrameAsked, FrameSalvaged}
-use Rattle.rescue.proofs.Between.{between-all}
 
 -- ---- salvage_all: audio channel i + 1, of n positions
 

@@ -9,24 +9,8 @@ use Rattle.rules.specs.Systems.{sequencesOf, halfOf, positionsOf}
 use Rattle.rules.specs.Faults.{frameFaults}
 use Rattle.rules.specs.Noting.{Noted}
 use Rattle.rules.specs.Salvage.{salvaged}
-use Rattle.rescue.specs.Taken.{heldSample, Between, halfFaults}
-
--- the words of a block, for n samples
-pub record WordsAsked (block : List ℕ) (first step n : ℕ) : Type 0 where
-  pub whole : length block ≡ 80
-  pub start : first < step
-  pub small : step ≤ 54
-  pub room : n ≤ 36 * step
-
--- audio block a, for n samples
-pub record BlockAsked (block : List ℕ) (y : System) (a n : ℕ) : Type 0 where
-  pub whole : length block ≡ 80
-  pub audio : a < 9
-  pub room : n ≤ positionsOf y
-
-pub record PartAsked (part : List ℕ) (y : System) (n : ℕ) : Type 0 where
-  pub whole : length part ≡ 12000
-  pub room : n ≤ positionsOf y
+use Rattle.words.specs.Taken.{Between}
+use Rattle.rescue.specs.Taken.{heldSample, halfFaults}
 
 -- row r of audio channel i + 1
 pub record RowAsked (frame : List ℕ) (y : System) (i r : ℕ) : Type 0 where

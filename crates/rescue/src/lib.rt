@@ -1,7 +1,6 @@
 // Salvage: every position of every audio channel, beside the fault list.
 mod call;
 mod rows;
-mod words;
 
 pub use call::salvage;
 pub use rows::samples_of;

@@ -6,9 +6,9 @@ ghost use Rattle.rules.specs.Systems.{halfOf, positionsOf};
 ghost use Rattle.rules.specs.Blocks.{sequenceAt};
 ghost use Rattle.rules.specs.Sound.{difOf};
 ghost use Rattle.rules.specs.Noting.{Noted};
-ghost use Rattle.rescue.specs.Taken.{heldSample, Between, samplesFit, samplesLeft, rowSequence, rowFaults};
+ghost use Rattle.words.specs.Taken.{Between};
+ghost use Rattle.rescue.specs.Taken.{heldSample, samplesFit, samplesLeft, rowSequence, rowFaults};
 ghost use Rattle.rescue.specs.Asked.{RowAsked, HalfAsked, HalfSalvaged};
-use crate::words;
 use layout::SEQUENCE;
 use rules::System;
 
@@ -36,7 +36,7 @@ fn take_row(frame: &[u8], y: System, i: u32, r: u32, samples: &mut [i32])
     ensures { λ _. ⌜ Between (halfOf y) (9 * r) (9 * r + 9) (heldSample y (now (frame .entry)) (i + 1)) (now (samples .entry)) (now (samples .exit)) ⌝ }
 {
     let part = row_part(frame, y, i, r);
-    words::take_part(part, y, i / 2, row_sequence(y, i, r), samples);
+    words::take_sequence(part, y, i / 2, row_sequence(y, i, r), samples);
 }
 
 // The faults of row r, where t came before.

@@ -6,7 +6,8 @@ use Rattle.base.specs.Run.{run}
 use Rattle.rules.specs.Systems.{halfOf}
 use Rattle.rules.specs.Noting.{Noted}
 use Rattle.rules.proofs.Records.{noted-start, noted-turn, noted-length}
-use Rattle.rescue.specs.Taken.{heldSample, Between, rowFaults}
+use Rattle.words.specs.Taken.{Between}
+use Rattle.rescue.specs.Taken.{heldSample, rowFaults}
 use Rattle.rescue.proofs.Halving.{row-asked, row-few, half-none, half-turn, half-salvaged}
 use Rattle.rescue.proofs.rows.salvage_half.Statement.{statement}
 use Rattle.rescue.proofs.rows.salvage_half.Tie as tie

@@ -3,7 +3,8 @@ use Prim.Native.Nat.{_+_, _-_, _*_, _≤_}
 use native.Mathlib.Omega.{arith}
 use borrow.Author.Needs.{needs}
 use Rattle.rules.specs.Systems.{halfOf}
-use Rattle.rescue.specs.Taken.{heldSample, Between}
+use Rattle.words.specs.Taken.{Between}
+use Rattle.rescue.specs.Taken.{heldSample}
 use Rattle.rescue.proofs.Halving.{row-asked, half-none, half-turn, half-taken}
 use Rattle.rescue.proofs.rows.take_half.Statement.{statement}
 use Rattle.rescue.proofs.rows.take_half.Tie as tie

@@ -1,8 +1,8 @@
--- `rescue::words::or_lost` meets its contract: by the flag. Assumes nothing.
+-- `words::or_lost` meets its contract: by the flag. Assumes nothing.
 use mathlib.Core.Path.{sym}
 use Rattle.base.proofs.Picks.{pick-true, pick-false}
-use Rattle.rescue.proofs.words.or_lost.Statement.{statement}
-use Rattle.rescue.proofs.words.or_lost.Tie as tie
+use Rattle.words.proofs.or_lost.Statement.{statement}
+use Rattle.words.proofs.or_lost.Tie as tie
 
 returns : tie.Need-returns
 returns c = sym (pick-true _ _ (c .if1 .taken))

@@ -12,7 +12,7 @@ use Rattle.base.specs.Run.{tab}
 use Rattle.base.proofs.Cases.{by-lt}
 use Rattle.base.proofs.Runs.{length-tab, tab-at}
 use Rattle.rules.proofs.Sound.{Half, row-below, audio-below}
-use Rattle.rescue.specs.Taken.{Placed, orderOf, Between}
+use Rattle.words.specs.Taken.{Placed, orderOf, Between}
 
 -- ---- Placed
 

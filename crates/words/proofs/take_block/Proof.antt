@@ -1,8 +1,8 @@
--- `rescue::words::take_block` meets its contract: the block's words are its samples. Assumes nothing.
+-- `words::take_block` meets its contract: the block's words are its samples. Assumes nothing.
 use borrow.Author.Needs.{needs}
-use Rattle.rescue.proofs.Ways.{step-fits, words-asked, block-taken}
-use Rattle.rescue.proofs.words.take_block.Statement.{statement}
-use Rattle.rescue.proofs.words.take_block.Tie as tie
+use Rattle.words.proofs.Ways.{step-fits, words-asked, block-taken}
+use Rattle.words.proofs.take_block.Statement.{statement}
+use Rattle.words.proofs.take_block.Tie as tie
 
 names-entry-requires : tie.Need-names-entry-requires
 names-entry-requires c κs = search needs

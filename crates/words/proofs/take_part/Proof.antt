@@ -1,13 +1,13 @@
--- `rescue::words::take_part` meets its contract: the samples of the audio blocks below a are taken. Assumes nothing.
+-- `words::take_part` meets its contract: the samples of the audio blocks below a are taken. Assumes nothing.
 use Prim.Native.Nat.{_+_, _-_, _*_, _≤_}
 use native.Mathlib.Omega.{arith}
 use borrow.Author.Needs.{needs}
 use Rattle.rules.specs.Sound.{rowAt}
 use Rattle.rules.specs.Systems.{halfOf}
-use Rattle.rescue.proofs.Ways.{block-ends, block-asked, part-turn, part-done, part-none}
-use Rattle.rescue.specs.Taken.{heldPart, Between}
-use Rattle.rescue.proofs.words.take_part.Statement.{statement}
-use Rattle.rescue.proofs.words.take_part.Tie as tie
+use Rattle.words.specs.Taken.{heldPart, Between}
+use Rattle.words.proofs.Ways.{block-ends, block-asked, part-turn, part-done, part-none}
+use Rattle.words.proofs.take_part.Statement.{statement}
+use Rattle.words.proofs.take_part.Tie as tie
 
 abbrev Inv-loop : tie.InvT-loop
 Inv-loop part y h q samples₀ a₀ samples a = Between (halfOf y) (9 * rowAt (halfOf y) q) (9 * rowAt (halfOf y) q + a) (heldPart (halfOf y) part h q) samples₀ samples × (a ≤ 9)

@@ -5,9 +5,10 @@ ghost use lib.ListN.{length};
 ghost use Rattle.base.specs.Pick.{pick};
 ghost use Rattle.rules.specs.Systems.{halfOf};
 ghost use Rattle.rules.specs.Sound.{rowAt};
-ghost use Rattle.rescue.specs.Taken.{heldWord, heldBlock, heldPart, Placed, Between};
-ghost use Rattle.rescue.specs.Asked.{WordsAsked, BlockAsked, PartAsked};
+ghost use Rattle.words.specs.Taken.{heldWord, heldBlock, heldPart, Placed, Between, blocksTaken};
+ghost use Rattle.words.specs.Asked.{WordsAsked, BlockAsked, PartAsked};
 use layout::BLOCK;
+use layout::SEQUENCE;
 use rules::BlockNumber;
 use rules::Entry;
 use rules::Sample;
@@ -57,7 +58,7 @@ fn take_block(block: &[u8], y: System, h: u32, q: u32, a: u32, samples: &mut [i3
 }
 
 // The nine audio blocks of a sequence.
-pub(crate) fn take_part(part: &[u8], y: System, h: u32, q: u32, samples: &mut [i32])
+fn take_part(part: &[u8], y: System, h: u32, q: u32, samples: &mut [i32])
     requires { ⌜ PartAsked (now part) y (length (now samples)) ⌝ }
     ensures { λ _. ⌜ Between (halfOf y) (9 * rowAt (halfOf y) q) (9 * rowAt (halfOf y) q + 9) (heldPart (halfOf y) (now (part .entry)) h q) (now (samples .entry)) (now (samples .exit)) ⌝ }
 {
@@ -67,5 +68,16 @@ pub(crate) fn take_part(part: &[u8], y: System, h: u32, q: u32, samples: &mut [i
         let at = p.0 as usize * BLOCK;
         take_block(&part[at..at + BLOCK], y, h, q, a, samples);
         a += 1;
+    }
+}
+
+// The samples of a sequence; none where its bytes or the list do not fit the system.
+pub fn take_sequence(part: &[u8], y: System, h: u32, q: u32, samples: &mut [i32])
+    ensures { λ _. ⌜ Between (halfOf y) (9 * rowAt (halfOf y) q) (9 * rowAt (halfOf y) q + blocksTaken y (length (now (part .entry))) (length (now (samples .entry)))) (heldPart (halfOf y) (now (part .entry)) h q) (now (samples .entry)) (now (samples .exit)) ⌝ }
+{
+    let room = layout::positions(y) as usize;
+    let fits = (part.len() == SEQUENCE) & (samples.len() <= room);
+    if fits {
+        take_part(part, y, h, q, samples);
     }
 }

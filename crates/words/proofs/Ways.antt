@@ -1,24 +1,26 @@
 -- What a block, a sequence and a half add to the samples taken before. s is n/2. Assumes nothing.
 use mathlib.Core.Path.{_≡_, refl, sym, ap, ap₂, _∙_, subst}
-use mathlib.Core.Bool.{Bool}
+use mathlib.Core.Bool.{Bool, true, false, _&&_}
 use mathlib.Core.List.{List}
 use mathlib.Core.Logic.{⊎-elim}
 use Prim.Native.Nat.{ℕ, _+_, _*_, _-_, _%_, _≤_, _<_}
 use native.Mathlib.Nat.{mod-lt}
 use native.Mathlib.Omega.{arith}
-use lib.Dec.{eqb}
+use lib.Dec.{eqb, leb}
 use lib.IntN.{ℤ, pos}
 use lib.ListN.{length, take, drop, getD, set}
 use mir.Syntax.{w32}
 use mir.Val.{Fits}
+use borrow.Author.Tests.{eqb-true, leb-true, eq-eqb, le-leb}
 use Rattle.base.specs.Pick.{pick}
 use Rattle.base.proofs.Parts.{range-part, length-part}
+use Rattle.base.proofs.Picks.{pick-true, pick-false, both-held}
 use Rattle.rules.specs.declared.System.{System}
 use Rattle.rules.specs.declared.Section.the-variants.{Audio}
 use Rattle.rules.specs.declared.Place.{Place}
 use Rattle.rules.specs.declared.Sample.{Sample}
 use Rattle.rules.specs.declared.Sample.the-variants.{Lost}
-use Rattle.rules.specs.Systems.{halfOf}
+use Rattle.rules.specs.Systems.{halfOf, positionsOf}
 use Rattle.rules.specs.Places.{block, placeIn, placeFor}
 use Rattle.rules.specs.Ids.{blockAnswer}
 use Rattle.rules.specs.Blocks.{blockIn}
@@ -28,9 +30,9 @@ use Rattle.rules.specs.Faults.{faultOf, faultAt, names}
 use Rattle.rules.proofs.Systems.{half-cases, positions-half}
 use Rattle.rules.proofs.Places.{entry-place-in, place-for}
 use Rattle.rules.proofs.Sound.{half-some, half-le, sample-back, audio-below, word-below, first-below, row-sample, audio-sample}
-use Rattle.rescue.specs.Taken.{heldWord, heldBlock, heldPart, Placed, Between}
-use Rattle.rescue.specs.Asked.{WordsAsked, BlockAsked, PartAsked}
-use Rattle.rescue.proofs.Between.{placed-more, word-within, between-none, between-next, between-same}
+use Rattle.words.specs.Taken.{heldWord, heldBlock, heldPart, Placed, Between, blocksTaken}
+use Rattle.words.specs.Asked.{WordsAsked, BlockAsked, PartAsked}
+use Rattle.words.proofs.Between.{placed-more, word-within, between-none, between-next, between-same}
 
 -- ---- put_words: word w, of which `high` and `low` are the bytes
 
@@ -149,3 +151,28 @@ part-done part y h q a before now le ge p = let e : a ≡ 9 = omega arith in rw 
 
 pub part-none : (part : List ℕ) (y : System) (h q : ℕ) (l : List ℤ) → Between (halfOf y) (9 * rowAt (halfOf y) q) (9 * rowAt (halfOf y) q + 0) (heldPart (halfOf y) part h q) l l
 part-none part y h q l = let e : 9 * rowAt (halfOf y) q + 0 ≡ 9 * rowAt (halfOf y) q = omega arith in rw e (between-none _ _ _ l)
+
+-- ---- take_sequence: n is what `positions` answers
+
+module _ (part : List ℕ) (y : System) (n : ℕ) (before : List ℤ) (en : n ≡ positionsOf y) where
+  fit : (eqb (length part) 12000 && leb (length before) (positionsOf y)) ≡ (eqb (length part) 12000 && leb (length before) n)
+  fit = rw en refl
+
+  module _ (e : (eqb (length part) 12000 && leb (length before) n) ≡ true) where
+    pub sequence-asked : PartAsked part y (length before)
+    sequence-asked = let w = both-held _ _ (fit ∙ e) in record { whole = eqb-true _ _ (w .0); room = leb-true _ _ (w .1) }
+
+    pub sequence-taken : (h q : ℕ) (now : List ℤ) → Between (halfOf y) (9 * rowAt (halfOf y) q) (9 * rowAt (halfOf y) q + 9) (heldPart (halfOf y) part h q) before now
+        → Between (halfOf y) (9 * rowAt (halfOf y) q) (9 * rowAt (halfOf y) q + blocksTaken y (length part) (length before)) (heldPart (halfOf y) part h q) before now
+    unfolding blocksTaken
+    sequence-taken h q now p = rw (pick-true {A = ℕ} 9 0 (fit ∙ e)) p
+
+  pub sequence-left : (eqb (length part) 12000 && leb (length before) n) ≡ false → (h q : ℕ)
+      → Between (halfOf y) (9 * rowAt (halfOf y) q) (9 * rowAt (halfOf y) q + blocksTaken y (length part) (length before)) (heldPart (halfOf y) part h q) before before
+  unfolding blocksTaken
+  sequence-left e h q = rw (pick-false {A = ℕ} 9 0 (fit ∙ e)) (part-none part y h q before)
+
+-- all nine of a sequence that fits
+pub nine-taken : (y : System) (size room : ℕ) → size ≡ 12000 → room ≤ positionsOf y → blocksTaken y size room ≡ 9
+unfolding blocksTaken
+nine-taken y size room e l = pick-true {A = ℕ} 9 0 (rw (eq-eqb _ _ e, le-leb _ _ l) refl)

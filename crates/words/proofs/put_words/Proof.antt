@@ -1,15 +1,15 @@
--- `rescue::words::put_words` meets its contract: the first words are put, and t is the next sample. Assumes nothing.
+-- `words::put_words` meets its contract: the first words are put, and t is the next sample. Assumes nothing.
 use mathlib.Core.Path.{_≡_, _∙_}
 use Prim.Native.Nat.{ℕ, _+_, _-_, _*_, _≤_, _<_}
 use native.Mathlib.Omega.{arith}
 use mir.Syntax.{w32}
 use mir.ValLaws.{toZ-ofZ}
 use borrow.Author.Needs.{needs, sfits-of}
-use Rattle.rescue.specs.Taken.{heldWord, Placed}
-use Rattle.rescue.proofs.Ways.{word-placed, word-room}
-use Rattle.rescue.proofs.Between.{placed-none, placed-end}
-use Rattle.rescue.proofs.words.put_words.Statement.{statement}
-use Rattle.rescue.proofs.words.put_words.Tie as tie
+use Rattle.words.specs.Taken.{heldWord, Placed}
+use Rattle.words.proofs.Ways.{word-placed, word-room}
+use Rattle.words.proofs.Between.{placed-none, placed-end}
+use Rattle.words.proofs.put_words.Statement.{statement}
+use Rattle.words.proofs.put_words.Tie as tie
 
 abbrev Inv-loop : tie.InvT-loop
 Inv-loop block named first step samples₀ t₀ w₀ samples t w = Placed first step (λ (k : ℕ). heldWord named block (8 + 2 * k)) w samples₀ samples × (t ≡ first + step * w) × (w ≤ 36)
