@@ -1,7 +1,7 @@
 #!/usr/bin/perl
 # What each refused edit of the repository breaks, as rt ci or rt must-fail left it under target/must-fail: of an edit of the rules
 # the headlines of proofs/Demands that fall, and the laws whose own statement or proof fails; of an edit of code the contracts that
-# are not met. A line a edit, as a row of a table; an edit that breaks none of these is an error.
+# are not met. A line an edit, as a row of a table; an edit that breaks none of these is an error.
 use strict;
 use warnings;
 
@@ -18,8 +18,8 @@ for my $edit (sort glob 'crates/*/must-fail/*.edit') {
             if ($file eq 'Demands') { push @headlines, $law }
             elsif ($why !~ /was not admitted/) { push @laws, $law }
         }
-        # a contract that is not met by the function's own body
-        push @contracts, $1 if /^fn (\S+): not proved$/;
+        # a contract that the function's own body does not meet, by its proof file or, where it has none, by the prover's own search
+        push @contracts, $1 if /^fn (\S+): (?:not proved$|no proof)/;
     }
     close $in;
     my $broken = $crate eq 'rules' ? \@laws : \@contracts;
