@@ -86,6 +86,18 @@ between-next s a b c f k l m ab bc p n =
 pub between-same : (s a b : ℕ) (f g : ℕ → ℤ) (k l : List ℤ) → ((t : ℕ) → a ≤ orderOf s t → orderOf s t < b → f t ≡ g t) → Between s a b f k l → Between s a b g k l
 between-same s a b f g k l e p = record { size = p .size; taken = λ t h lo hi. p .taken t h lo hi ∙ e t lo hi; others = p .others }
 
+-- one list meets it
+pub between-one : (s a b : ℕ) (f : ℕ → ℤ) (k l m : List ℤ) → Between s a b f k l → Between s a b f k m → l ≡ m
+between-one s a b f k l m p n =
+    ext-getD (pos 0) l m (p .size ∙ sym (n .size)) (λ t h.
+    let h′ : t < length k = omega (arith, p .size) in
+    by-lt (orderOf s t) a
+    (λ below. p .others t (inl below) ∙ sym (n .others t (inl below)))
+    (λ from.
+    by-lt (orderOf s t) b
+    (λ to. p .taken t h′ from to ∙ sym (n .taken t h′ from to))
+    (λ past. p .others t (inr past) ∙ sym (n .others t (inr past)))))
+
 -- all audio blocks of a half
 pub between-all : (s : ℕ) (f : ℕ → ℤ) (k l : List ℤ) → Half s → Between s 0 (9 * s) f k l → l ≡ tab f (length k)
 between-all s f k l half p =
