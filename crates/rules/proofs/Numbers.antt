@@ -36,11 +36,15 @@ count-60 I50 k e = absurd (omega (arith, e))
 count-60 P60 k e = refl
 count-60 P50 k e = absurd (omega (arith, e))
 
-count-50 : (y : System) (k : ℕ) → sequencesOf y ≡ 12 → isCount y k ≡ (eqb k 1920 || eqb k 1920)
+-- the pair of equal counts is one
+count-twice : (k : ℕ) → (eqb k 1920 || eqb k 1920) ≡ eqb k 1920
+count-twice k = by-bool (eqb k 1920) (λ e. rw e refl) (λ e. rw e refl)
+
+count-50 : (y : System) (k : ℕ) → sequencesOf y ≡ 12 → isCount y k ≡ eqb k 1920
 count-50 I60 k e = absurd (omega (arith, e))
-count-50 I50 k e = refl
+count-50 I50 k e = count-twice k
 count-50 P60 k e = absurd (omega (arith, e))
-count-50 P50 k e = refl
+count-50 P50 k e = count-twice k
 
 -- ---- inRange
 

@@ -32,7 +32,7 @@ soundIndex n s c t = (n * ((c - 1) / 2) + (s * ((c + 1) % 2) + (t / 3 + 2 * (t %
 pub record InNumbers : Type 0 where
   -- "Each system brings its own four numbers."
   pub systems : Numbers 0 I60 10 1620 5400 × Numbers 1 I50 12 1944 6075 × Numbers 2 P60 10 1620 5400 × Numbers 3 P50 12 1944 5400
-  pub counts : (y : System) (k : ℕ) → (sequencesOf y ≡ 10 → isCount y k ≡ (eqb k 1600 || eqb k 1602)) × (sequencesOf y ≡ 12 → isCount y k ≡ (eqb k 1920 || eqb k 1920))
+  pub counts : (y : System) (k : ℕ) → (sequencesOf y ≡ 10 → isCount y k ≡ (eqb k 1600 || eqb k 1602)) × (sequencesOf y ≡ 12 → isCount y k ≡ eqb k 1920)
   -- 1: "system above 3"
   pub no-system : (k : ℕ) → 3 < k → systemOf k ≡ NoSystem
   -- "0 header, 1 subcode, 2 VAUX, 3 audio, 4 video"; "(FSC, FSP) = (0,1), (1,1), (0,0), (1,0) is channel 0, 1, 2, 3"
