@@ -29,6 +29,10 @@ module _ {A : Type 0} where
   drop-take (suc a) n [] = rw (take-nil, take-nil)
   drop-take (suc a) n (x ∷ xs) = rw suc-add (drop-take a n xs)
 
+  -- a part without its first elements
+  pub drop-part : (a b n : ℕ) (l : List A) → drop b (take (b + n) (drop a l)) ≡ take n (drop (a + b) l)
+  drop-part a b n l = drop-take b n (drop a l) ∙ ap (take n) (drop-drop b a l)
+
   -- a part of a part is a part of the whole
   pub part-part : (a m b n : ℕ) (l : List A) → b + n ≤ m → take n (drop b (take m (drop a l))) ≡ take n (drop (a + b) l)
   part-part a m b n l h =

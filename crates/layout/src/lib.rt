@@ -1,11 +1,13 @@
 // The four systems, the 150 places and block IDs: what every crate above reads frames by.
 mod ids;
+mod parts;
 mod places;
 mod systems;
 
 pub use ids::id_bytes;
 pub use ids::read_block;
 pub use ids::read_id;
+pub use parts::no_part;
 pub use places::entry_at;
 pub use places::entry_of;
 pub use places::place_in;

@@ -6,11 +6,11 @@ use Prim.Native.Nat.{ℕ, _+_, _*_, _-_, _≤_, _<_}
 use native.Mathlib.Omega.{arith}
 use lib.Dec.{eqb, ltb, leb}
 use lib.IntN.{ℤ}
-use lib.ListN.{length, take, drop, length-drop}
-use lib.Seq.{take-all, length-take-le}
+use lib.ListN.{length, take, drop}
+use lib.Seq.{length-take-le}
 use borrow.Author.Tests.{eq-eqb, le-leb, ltb-true}
 use Rattle.base.specs.Run.{tab}
-use Rattle.base.proofs.Parts.{length-part, range-part, part-part}
+use Rattle.base.proofs.Parts.{range-part}
 use Rattle.base.proofs.Picks.{pick-true, both-held, both-hold}
 use Rattle.base.proofs.Runs.{run-same}
 use Rattle.rules.specs.declared.System.{System}
@@ -19,6 +19,7 @@ use Rattle.rules.specs.declared.SystemNumber.the-variants.{Known, NoSystem}
 use Rattle.rules.specs.declared.Section.the-variants.{Video}
 use Rattle.rules.specs.declared.BlockNumber.{BlockNumber}
 use Rattle.rules.specs.declared.Place.{Place}
+use Rattle.rules.specs.declared.Part.{Part}
 use Rattle.rules.specs.declared.Pack.{Pack}
 use Rattle.rules.specs.declared.Sample.{Sample}
 use Rattle.rules.specs.declared.Slot.{Slot}
@@ -29,12 +30,12 @@ use Rattle.rules.specs.declared.AudioAnswer.{AudioAnswer}
 use Rattle.rules.specs.declared.TimeAnswer.{TimeAnswer}
 use Rattle.rules.specs.Systems.{sequencesOf, positionsOf, macroblocksOf, systemOf}
 use Rattle.rules.specs.Places.{placeIn, placeFor}
-use Rattle.rules.specs.Blocks.{startOf, blockAt}
+use Rattle.rules.specs.Blocks.{noPart}
 use Rattle.rules.specs.Samples.{numberOf}
 use Rattle.rules.specs.Picture.{carriedIn, carrierOf, carriedBy}
 use Rattle.rules.specs.Reading.{readSample}
 use Rattle.rules.specs.Audio.{countFor, isAudio, audioNumber, AudioRead}
-use Rattle.rules.specs.Macroblock.{macroblockNumber, slotBytes, MacroblockNumbered, MacroblockRead}
+use Rattle.rules.specs.Macroblock.{macroblockNumber, slotStart, MacroblockNumbered, MacroblockRead, MacroblockLies}
 use Rattle.rules.specs.Time.{timeFirst, groupFirst, settled, timeNumber, fourBytes, timeRefused, TimeRead}
 use Rattle.rules.proofs.Systems.{sequences-le}
 use Rattle.rules.proofs.Places.{place-for}
@@ -42,7 +43,7 @@ use Rattle.rules.proofs.Blocks.{before-channel}
 use Rattle.rules.proofs.Check.{rows-mean}
 use Rattle.rules.proofs.Reading.{salvaged-named, sound-clean}
 use Rattle.rules.proofs.Audio.{audio-1, audio-zero, audio-stopped, audio-count, audio-done}
-use Rattle.rules.proofs.Macroblock.{macroblock-1, macroblock-zero, macroblock-refused, macroblock-taken}
+use Rattle.rules.proofs.Macroblock.{macroblock-1, macroblock-zero, macroblock-lies-stopped, macroblock-lies-found, macroblock-lies-within}
 use Rattle.rules.proofs.Picture.{carrier-carries, carried-inside}
 use Rattle.rules.proofs.Time.{time-1, time-stopped, time-done}
 use Rattle.rescue.specs.Taken.{heldSample, samplesFit, samplesLeft}
@@ -67,15 +68,15 @@ module _ (y : System) (h q : ℕ) (v : BlockNumber) (asked : SlotAsked y h q v) 
         let e : n * h ≡ sequencesOf y * h = ap (λ (x : ℕ). x * h) en in
         record { is = omega (arith, er, e, slot-place); within = omega (arith, er, slot-small); small = omega (arith, er, slot-small, sequences-le y) }
 
--- ---- macroblock
+-- ---- macroblock_at and macroblock
 
 module _ (k : ℕ) (frame : List ℕ) (b : ℕ) (s : SystemNumber) (es : s ≡ systemOf k) where
-  pub part-no-system : s ≡ NoSystem → MacroblockRead k frame b []
-  part-no-system e = record { answer = sym (macroblock-refused k frame b (λ z. omega (arith, z, macroblock-1 k frame b (sym es ∙ e)))) }
+  pub lies-no-system : s ≡ NoSystem → (r : Part) → r ≡ noPart 1 → MacroblockLies k frame b r
+  lies-no-system e = macroblock-lies-stopped k frame b 1 (macroblock-1 k frame b (sym es ∙ e)) (λ z. omega arith)
 
   module _ (y : System) (e : s ≡ Known y) (r : ℕ) (er : MacroblockNumbered k frame b r) where
-    pub part-refused : (r ≡ 0 → ⊥) → MacroblockRead k frame b []
-    part-refused d = record { answer = sym (macroblock-refused k frame b (λ z. d (er .answer ∙ z))) }
+    pub lies-refused : (r ≡ 0 → ⊥) → (t : Part) → t ≡ noPart r → MacroblockLies k frame b t
+    lies-refused = macroblock-lies-stopped k frame b r (er .answer)
 
     module _ (z : r ≡ 0) (c : Carrier) (ec : c ≡ carrierOf y b) where
       zero : macroblockNumber k frame b ≡ 0
@@ -84,8 +85,8 @@ module _ (k : ℕ) (frame : List ℕ) (b : ℕ) (s : SystemNumber) (es : s ≡ s
       holds : (length frame ≡ 48000 * sequencesOf y) × (b < macroblocksOf y)
       holds = let w = macroblock-zero k frame b y (sym es ∙ e) zero in (w .0, w .1)
 
-      pub part-nowhere : c ≡ NoSlot → MacroblockRead k frame b []
-      part-nowhere f = let g : carrierOf y b ≡ NoSlot = sym ec ∙ f in absurd (nowhere-not (carrier-carries y b (holds .1)) g)
+      pub lies-nowhere : c ≡ NoSlot → (t : Part) → MacroblockLies k frame b t
+      lies-nowhere f t = let g : carrierOf y b ≡ NoSlot = sym ec ∙ f in absurd (nowhere-not (carrier-carries y b (holds .1)) g)
         where
           nowhere-not : carriedBy (carriedIn y) (carrierOf y b) ≡ Macroblock b → carrierOf y b ≡ NoSlot → ⊥
           nowhere-not m g = let q : _≡_ {A = ℕ} 0 1 = cc in omega arith
@@ -100,25 +101,16 @@ module _ (k : ℕ) (frame : List ℕ) (b : ℕ) (s : SystemNumber) (es : s ≡ s
         pub slot-asked : SlotAsked y (slot .channel) (slot .sequence) (slot .video)
         slot-asked = let i = carried-inside y slot b carries in record { channel = i .channel; sequence = i .sequence; video = i .video }
 
-        module _ (at : ℕ) (st : SlotStart y (slot .channel) (slot .sequence) (slot .video) at) where
-          pub part-within : at + 77 ≤ length frame
-          part-within = omega (arith, st .within, holds .0)
+        pub lies-found : (at : ℕ) → SlotStart y (slot .channel) (slot .sequence) (slot .video) at → MacroblockLies k frame b (record { number = 0; start = at; length = 77 })
+        unfolding slotStart
+        lies-found at st = rw (st .is) (macroblock-lies-found k frame b y (sym es ∙ e) zero slot lies)
 
-          pub part-read : MacroblockRead k frame b (take (at + 77 - at) (drop at frame))
-          unfolding slotBytes blockAt
-          part-read =
-              let h = slot .channel in
-              let p = placeIn Video (slot .video .0) in
-              let start = startOf y h (slot .sequence) p in
-              let long : length (drop 3 (take 80 (drop start frame))) ≤ 77 = omega (arith, length-drop 3 (take 80 (drop start frame)), length-part start 80 frame (omega (arith, st .is, part-within))) in
-              record {
-                answer =
-                    range-part at 77 frame
-                    ∙ rw (st .is) refl
-                    ∙ sym (part-part start 80 3 77 frame (omega arith))
-                    ∙ take-all 77 (drop 3 (take 80 (drop start frame))) long
-                    ∙ sym (macroblock-taken k frame b y (sym es ∙ e) zero slot lies);
-              }
+module _ (k : ℕ) (frame : List ℕ) (b : ℕ) (r : Part) (m : MacroblockLies k frame b r) where
+  pub part-ends : r .start + r .length ≤ length frame
+  part-ends = macroblock-lies-within k frame b m
+
+  pub part-read : MacroblockRead k frame b (take (r .start + r .length - r .start) (drop (r .start) frame))
+  part-read = record { answer = range-part (r .start) (r .length) frame ∙ m .bytes }
 
 -- ---- read_time
 

@@ -8,4 +8,5 @@ pub use audio::read_audio;
 pub use check::check_frame;
 pub use time::read_time;
 pub use video::macroblock;
+pub use video::macroblock_at;
 pub use video::macroblock_number;

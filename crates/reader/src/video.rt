@@ -1,10 +1,11 @@
-// The macroblock read: its number by one call, its bytes as a part of the frame by another.
-ghost use Rattle.rules.specs.Macroblock.{MacroblockNumbered, MacroblockRead};
+// The macroblock read: its number by one call, its bytes as a part of the frame by another, or where that part lies.
+ghost use Rattle.rules.specs.Macroblock.{MacroblockLies, MacroblockNumbered, MacroblockRead};
 ghost use Rattle.reader.specs.Asked.{SlotAsked, SlotStart};
 use layout::BLOCK;
 use layout::PLACES;
 use rules::BlockNumber;
 use rules::Carrier;
+use rules::Part;
 use rules::Section;
 use rules::System;
 use rules::SystemNumber;
@@ -26,19 +27,33 @@ pub fn macroblock_number(system: u32, frame: &[u8], number: u32) -> u32
     asks_video::macroblock_number(system, frame, number)
 }
 
+// Where a macroblock lies: its first byte and its length, 77; zeros where its number is a refusal.
+pub fn macroblock_at(system: u32, frame: &[u8], number: u32) -> Part
+    ensures { λ r. ⌜ MacroblockLies system (now (frame .entry)) number r ⌝ }
+{
+    let SystemNumber::Known(y) = layout::system_of(system) else {
+        return layout::no_part(1);
+    };
+    let refusal = macroblock_number(system, frame, number);
+    if refusal != 0 {
+        return layout::no_part(refusal);
+    }
+    let Carrier::In(s) = picture::carrier(y, number) else {
+        return layout::no_part(refusal);
+    };
+    Part {
+        number: 0,
+        start: slot_start(y, s.channel, s.sequence, s.video) as u32,
+        length: 77,
+    }
+}
+
 // The 77 bytes of a macroblock, a part of the frame; none where its number is a refusal.
 pub fn macroblock(system: u32, frame: &[u8], number: u32) -> &[u8]
     ensures { λ r. ⌜ MacroblockRead system (now (frame .entry)) number (now r) ⌝ }
 {
-    let SystemNumber::Known(y) = layout::system_of(system) else {
-        return &frame[0..0];
-    };
-    if macroblock_number(system, frame, number) != 0 {
-        return &frame[0..0];
-    }
-    let Carrier::In(s) = picture::carrier(y, number) else {
-        return &frame[0..0];
-    };
-    let at = slot_start(y, s.channel, s.sequence, s.video);
-    &frame[at..at + 77]
+    let part = macroblock_at(system, frame, number);
+    let start = part.start as usize;
+    let end = start + part.length as usize;
+    &frame[start..end]
 }

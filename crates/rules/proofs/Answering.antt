@@ -13,21 +13,23 @@ use Rattle.base.proofs.Picks.{pick-true}
 use Rattle.rules.specs.declared.System.{System}
 use Rattle.rules.specs.declared.SystemNumber.{SystemNumber}
 use Rattle.rules.specs.declared.SystemNumber.the-variants.{Known, NoSystem}
+use Rattle.rules.specs.declared.IdValues.{IdValues}
 use Rattle.rules.specs.declared.Fault.{Fault}
 use Rattle.rules.specs.declared.Survey.{Survey}
 use Rattle.rules.specs.declared.AudioAnswer.{AudioAnswer}
 use Rattle.rules.specs.declared.TimeAnswer.{TimeAnswer}
 use Rattle.rules.specs.Systems.{inSystem, systemOf}
-use Rattle.rules.specs.Ids.{idRefusal, IdValues}
+use Rattle.rules.specs.Ids.{idRefusal}
+use Rattle.rules.specs.Blocks.{noPart}
 use Rattle.rules.specs.ReadId.{idNumber, idSays}
 use Rattle.rules.specs.Survey.{refusal, Surveyed}
 use Rattle.rules.specs.Audio.{audioNumber, audioAnswer, AudioRead}
 use Rattle.rules.specs.Time.{timeNumber, timeRefused, timeAnswer, timeFound, TimeRead}
 use Rattle.rules.specs.Statements.{EveryCall}
-use Rattle.rules.proofs.Calls.{read-id-one, survey-frame-one, survey-sequence-one, survey-refused, survey-taken, view-number-one, view-one, view-refused}
+use Rattle.rules.proofs.Calls.{read-id-one, id-said-one, survey-frame-one, survey-sequence-one, survey-refused, survey-taken, view-number-one, view-one, view-refused, view-lies-one, view-lies-number, view-lies-refused}
 use Rattle.rules.proofs.Check.{check-frame-one}
 use Rattle.rules.proofs.Audio.{read-audio-one, audio-refused}
-use Rattle.rules.proofs.Macroblock.{macroblock-number-one, macroblock-one, macroblock-refused}
+use Rattle.rules.proofs.Macroblock.{macroblock-number-one, macroblock-one, macroblock-refused, macroblock-lies-one, macroblock-lies-number, macroblock-lies-refused}
 use Rattle.rules.proofs.Time.{time-1, read-time-one, time-refused}
 use Rattle.rules.proofs.Salvage.{salvage-one, salvage-refused}
 use Rattle.rules.proofs.Write.{write-frame-one, write-refused}
@@ -103,6 +105,11 @@ every-call = record {
     numbered = λ o m. ap (λ (v : IdValues). v .number) (m .says) ∙ says-number id;
     refused = λ o m d. rw (m .says) (says-quiet id (λ z. d (ap (λ (v : IdValues). v .number) (m .says) ∙ z)));
   };
+  id-values = λ id. record {
+    one = id-said-one id;
+    numbered = λ o m. ap (λ (v : IdValues). v .number) (m .answer) ∙ says-number id;
+    refused = λ o m d. rw (m .answer) (says-quiet id (λ z. d (ap (λ (v : IdValues). v .number) (m .answer) ∙ z)));
+  };
   survey = λ k frame list. record {
     one = survey-frame-one k frame list;
     numbered = λ o m. survey-number m;
@@ -118,6 +125,11 @@ every-call = record {
     numbered = λ o m. m .0 .answer;
     refused = λ o m d. m .1 .answer ∙ view-refused k frame h q p (λ z. d (m .0 .answer ∙ z));
   };
+  view-at = λ k frame h q p. record {
+    one = view-lies-one k frame h q p;
+    numbered = λ o m. view-lies-number k frame h q p m;
+    refused = λ o m d. let e = view-lies-number k frame h q p m in view-lies-refused k frame h q p m (λ z. d (e ∙ z)) ∙ ap noPart (sym e);
+  };
   check-frame = λ k frame. record {
     one = check-frame-one k frame;
     numbered = λ o m. m .answer;
@@ -132,6 +144,11 @@ every-call = record {
     one = pair-one (macroblock-number-one k frame b) (macroblock-one k frame b);
     numbered = λ o m. m .0 .answer;
     refused = λ o m d. m .1 .answer ∙ macroblock-refused k frame b (λ z. d (m .0 .answer ∙ z));
+  };
+  macroblock-at = λ k frame b. record {
+    one = macroblock-lies-one k frame b;
+    numbered = λ o m. macroblock-lies-number k frame b m;
+    refused = λ o m d. let e = macroblock-lies-number k frame b m in macroblock-lies-refused k frame b m (λ z. d (e ∙ z)) ∙ ap noPart (sym e);
   };
   read-time = λ k frame. record {
     one = read-time-one k frame;

@@ -1,14 +1,18 @@
 -- Laws of blocks and sequences as parts of a frame. Assumes nothing.
-use mathlib.Core.Path.{_≡_, sym, _∙_}
-use mathlib.Core.List.{List}
+use mathlib.Core.Path.{_≡_, sym, ap, _∙_}
+use mathlib.Core.List.{List, []}
 use Prim.Native.Nat.{ℕ, _+_, _*_, _/_, _%_, _≤_, _<_}
 use native.Mathlib.Nat.{mul-le-mul-left, mul-comm, div-add-mod', mod-lt, div-lt-iff-lt-mul}
 use native.Mathlib.Omega.{arith}
-use lib.ListN.{length}
+use lib.ListN.{length, take, drop}
+use borrow.Author.Tests.{eq-eqb, ne-eqb}
+use Rattle.base.proofs.Cases.{by-eq}
 use Rattle.base.proofs.Parts.{length-part, part-part, digit-one}
+use Rattle.base.proofs.Picks.{pick-true, pick-false}
 use Rattle.rules.specs.declared.System.{System}
+use Rattle.rules.specs.declared.Part.{Part}
 use Rattle.rules.specs.Systems.{sequencesOf}
-use Rattle.rules.specs.Blocks.{startOf, blockAt, sequenceAt, blockIn, Holds}
+use Rattle.rules.specs.Blocks.{startOf, blockAt, sequenceAt, blockIn, Holds, noPart, partAt, bytesOf}
 use Rattle.rules.proofs.Systems.{sequences-some}
 
 -- the sequences of the DIF channels before h
@@ -68,3 +72,28 @@ pub sequence-length : (y : System) (frame : List ℕ) (h q : ℕ) → length fra
     → length (sequenceAt y frame h q) ≡ 12000
 unfolding sequenceAt
 sequence-length y frame h q e hh hq = length-part ((sequencesOf y * h + q) * 12000) 12000 frame (omega (arith, e, before-channel (sequencesOf y) h hh))
+
+-- ---- partAt
+
+module _ (number start size : ℕ) where
+  pub part-taken : number ≡ 0 → partAt number start size ≡ record { number = 0; start = start; length = size }
+  unfolding partAt
+  part-taken z = pick-true _ _ (eq-eqb _ 0 z)
+
+  pub part-refused : (number ≡ 0 → ⊥) → partAt number start size ≡ noPart number
+  unfolding partAt
+  part-refused d = pick-false _ _ (ne-eqb _ 0 d)
+
+  pub part-number : partAt number start size .number ≡ number
+  part-number = by-eq number 0 (λ z. ap (λ (r : Part). r .number) (part-taken z) ∙ sym z) (λ d. ap (λ (r : Part). r .number) (part-refused d))
+
+  -- a refusal says no bytes
+  pub part-bytes : (frame bytes : List ℕ) → (number ≡ 0 → take size (drop start frame) ≡ bytes) → ((number ≡ 0 → ⊥) → bytes ≡ []) → bytesOf frame (partAt number start size) ≡ bytes
+  part-bytes frame bytes taken refused =
+      by-eq number 0
+      (λ z. ap (bytesOf frame) (part-taken z) ∙ taken z)
+      (λ d. ap (bytesOf frame) (part-refused d) ∙ sym (refused d))
+
+  -- and what it says lies in the frame
+  pub part-within : (frame : List ℕ) → (number ≡ 0 → start + size ≤ length frame) → partAt number start size .start + partAt number start size .length ≤ length frame
+  part-within frame within = by-eq number 0 (λ z. rw (part-taken z) (within z)) (λ d. rw (part-refused d) (omega arith))

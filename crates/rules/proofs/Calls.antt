@@ -3,18 +3,21 @@
 use mathlib.Core.Path.{_≡_, refl, sym, ap, _∙_}
 use mathlib.Core.Bool.{true, false, _||_}
 use mathlib.Core.List.{List, []}
-use Prim.Native.Nat.{ℕ, suc, _*_, _/_, _≤_, _<_, min}
+use Prim.Native.Nat.{ℕ, suc, _+_, _*_, _/_, _≤_, _<_, min}
 use native.Mathlib.Omega.{arith}
 use lib.Dec.{eqb, leb}
-use lib.ListN.{length}
+use lib.ListN.{length, take, drop}
 use borrow.Author.Tests.{eq-eqb, ne-eqb, lt-leb, le-leb, leb-false, lt-ltb, le-ltb}
 use Rattle.base.specs.Calls.{firstOf, _when_, ExactlyOne}
 use Rattle.base.specs.Pick.{pick}
 use Rattle.base.proofs.Cases.{by-bool, by-lt, by-eq}
 use Rattle.base.proofs.Picks.{pick-true, pick-false, neither}
 use Rattle.rules.specs.declared.System.{System}
+use Rattle.rules.specs.declared.SystemNumber.{SystemNumber}
 use Rattle.rules.specs.declared.SystemNumber.the-variants.{Known, NoSystem}
 use Rattle.rules.specs.declared.Place.{Place}
+use Rattle.rules.specs.declared.Part.{Part}
+use Rattle.rules.specs.declared.IdValues.{IdValues}
 use Rattle.rules.specs.declared.IdAnswer.{IdAnswer}
 use Rattle.rules.specs.declared.IdAnswer.the-variants.{Named, Reserved, WrongLength}
 use Rattle.rules.specs.declared.Fault.{Fault}
@@ -22,15 +25,15 @@ use Rattle.rules.specs.declared.Survey.{Survey}
 use Rattle.rules.specs.Systems.{sequencesOf, systemOf}
 use Rattle.rules.specs.Places.{place}
 use Rattle.rules.specs.Ids.{sectionBits, dseqBits, fscBit, fspBit, dbnByte, channelOf, namedBy, idAnswer, idRefusal, idValues}
-use Rattle.rules.specs.Blocks.{blockAt}
+use Rattle.rules.specs.Blocks.{startOf, blockAt, noPart, bytesOf}
 use Rattle.rules.specs.Faults.{faultAt}
 use Rattle.rules.specs.Records.{kept, after}
 use Rattle.rules.specs.Noting.{Noted}
-use Rattle.rules.specs.ReadId.{idNumber, idSays, IdRead}
+use Rattle.rules.specs.ReadId.{idNumber, idSays, IdRead, IdSaid}
 use Rattle.rules.specs.Survey.{outsideSequences, surveyNumber, sequenceNumber, refusal, surveyAnswer, surveyLeft, Surveyed, FrameSurveyed, SequenceSurveyed}
-use Rattle.rules.specs.View.{viewNumber, viewPart, ViewNumbered, Viewed}
+use Rattle.rules.specs.View.{viewNumber, viewedBlock, viewPart, viewedStart, viewAt, ViewNumbered, Viewed, ViewLies}
 use Rattle.rules.proofs.Places.{code-section}
-use Rattle.rules.proofs.Blocks.{block-length}
+use Rattle.rules.proofs.Blocks.{start-within, block-length, part-taken, part-number, part-refused, part-bytes, part-within}
 use Rattle.rules.proofs.Records.{kept-length, more-after}
 
 -- ---- read_id
@@ -77,6 +80,9 @@ module _ (id : List ℕ) where
 
   pub read-id-one : ExactlyOne IdAnswer (IdRead id)
   read-id-one = record { outcome = idAnswer id; meets = id-read (idAnswer id) refl; only = λ o m. m .answer }
+
+  pub id-said-one : ExactlyOne IdValues (IdSaid id)
+  id-said-one = record { outcome = idSays id; meets = record { answer = refl }; only = λ o m. m .answer }
 
 -- ---- survey and survey_sequence
 
@@ -220,3 +226,50 @@ module _ (k : ℕ) (frame : List ℕ) (h q : ℕ) (p : Place) where
     -- and then the part is the block's 80 bytes
     pub view-length : viewNumber k frame h q p ≡ 0 → length (viewPart k frame h q p) ≡ 80
     view-length z = let w = view-zero z in ap length (view-taken z) ∙ block-length y frame h q (p .0) (w .0) (w .1) (w .2) (w .3)
+
+-- ---- view_at
+
+module _ (k : ℕ) (frame : List ℕ) (h q : ℕ) (p : Place) where
+  -- the bytes from the start on are the block
+  start-block : viewNumber k frame h q p ≡ 0 → (s : SystemNumber) → systemOf k ≡ s → take 80 (drop (viewedStart s h q (p .0)) frame) ≡ viewedBlock s frame h q (p .0)
+  unfolding blockAt
+  start-block z (Known y) e = refl
+  start-block z NoSystem e = absurd (omega (arith, z, view-1 k frame h q p e))
+
+  start-fits : viewNumber k frame h q p ≡ 0 → (s : SystemNumber) → systemOf k ≡ s → viewedStart s h q (p .0) + 80 ≤ length frame
+  start-fits z (Known y) e = let w = view-zero k frame h q p y e z in omega (arith, w .0, start-within y h q (p .0) (w .1) (w .2) (w .3))
+  start-fits z NoSystem e = absurd (omega (arith, z, view-1 k frame h q p e))
+
+  pub view-lies : (r : Part) → r ≡ viewAt k frame h q p → ViewLies k frame h q p r
+  unfolding viewAt viewPart
+  view-lies r e = record {
+    answer = e;
+    bytes = ap (bytesOf frame) e
+        ∙ part-bytes (viewNumber k frame h q p) (viewedStart (systemOf k) h q (p .0)) 80 frame (viewPart k frame h q p)
+        (λ z. start-block z (systemOf k) refl ∙ sym (pick-true _ _ (eq-eqb _ _ z)))
+        (view-refused k frame h q p);
+  }
+
+  -- the two ways to it
+  pub view-lies-stopped : (n : ℕ) → n ≡ viewNumber k frame h q p → (n ≡ 0 → ⊥) → (r : Part) → r ≡ noPart n → ViewLies k frame h q p r
+  unfolding viewAt
+  view-lies-stopped n en d r e = view-lies r (e ∙ ap noPart en ∙ sym (part-refused _ (viewedStart (systemOf k) h q (p .0)) 80 (λ z. d (en ∙ z))))
+
+  pub view-lies-found : (y : System) → systemOf k ≡ Known y → viewNumber k frame h q p ≡ 0 → ViewLies k frame h q p (record { number = 0; start = startOf y h q (p .0); length = 80 })
+  unfolding viewAt
+  view-lies-found y known z = view-lies _ (sym (part-taken _ (viewedStart (systemOf k) h q (p .0)) 80 z ∙ rw known refl))
+
+  pub view-lies-one : ExactlyOne Part (ViewLies k frame h q p)
+  view-lies-one = record { outcome = viewAt k frame h q p; meets = view-lies (viewAt k frame h q p) refl; only = λ o m. m .answer }
+
+  pub view-lies-number : {r : Part} → ViewLies k frame h q p r → r .number ≡ viewNumber k frame h q p
+  unfolding viewAt
+  view-lies-number m = ap (λ (r : Part). r .number) (m .answer) ∙ part-number (viewNumber k frame h q p) (viewedStart (systemOf k) h q (p .0)) 80
+
+  pub view-lies-refused : {r : Part} → ViewLies k frame h q p r → (viewNumber k frame h q p ≡ 0 → ⊥) → r ≡ noPart (viewNumber k frame h q p)
+  unfolding viewAt
+  view-lies-refused m d = m .answer ∙ part-refused (viewNumber k frame h q p) (viewedStart (systemOf k) h q (p .0)) 80 d
+
+  pub view-lies-within : {r : Part} → ViewLies k frame h q p r → r .start + r .length ≤ length frame
+  unfolding viewAt
+  view-lies-within m = rw (m .answer) (part-within (viewNumber k frame h q p) (viewedStart (systemOf k) h q (p .0)) 80 frame (λ z. start-fits z (systemOf k) refl))

@@ -3,29 +3,32 @@
 use mathlib.Core.Path.{_≡_, refl, sym, ap, _∙_}
 use mathlib.Core.Bool.{true, false}
 use mathlib.Core.List.{List, [], _++_}
-use Prim.Native.Nat.{ℕ, _+_, _*_, _<_}
+use Prim.Native.Nat.{ℕ, _+_, _*_, _≤_, _<_}
 use native.Mathlib.Omega.{arith}
 use lib.Dec.{eqb, ltb}
-use lib.ListN.{length, length-drop}
+use lib.ListN.{length, take, drop, length-drop}
 use borrow.Author.Tests.{eq-eqb, ne-eqb, eqb-true, ltb-true}
 use Rattle.base.specs.Calls.{firstOf, _when_, ExactlyOne}
 use Rattle.base.specs.Pick.{pick}
 use Rattle.base.proofs.Cases.{by-bool, by-eq}
+use Rattle.base.proofs.Parts.{drop-part}
 use Rattle.base.proofs.Picks.{pick-true, pick-false, first-stops}
 use Rattle.rules.specs.declared.System.{System}
+use Rattle.rules.specs.declared.SystemNumber.{SystemNumber}
 use Rattle.rules.specs.declared.SystemNumber.the-variants.{Known, NoSystem}
+use Rattle.rules.specs.declared.Part.{Part}
 use Rattle.rules.specs.declared.Section.the-variants.{Video}
 use Rattle.rules.specs.declared.Slot.{Slot}
 use Rattle.rules.specs.declared.Carried.the-variants.{Macroblock}
 use Rattle.rules.specs.declared.Carrier.the-variants.{In}
-use Rattle.rules.specs.Systems.{sequencesOf, macroblocksOf, systemOf}
+use Rattle.rules.specs.Systems.{sequencesOf, macroblocksOf, inSystem, systemOf}
 use Rattle.rules.specs.Places.{placeIn}
-use Rattle.rules.specs.Blocks.{blockAt}
+use Rattle.rules.specs.Blocks.{startOf, blockAt, noPart, bytesOf}
 use Rattle.rules.specs.Picture.{carriedIn, carrierOf}
 use Rattle.rules.specs.Check.{everySequence, unflagged, checkRows}
-use Rattle.rules.specs.Macroblock.{pictureRows, macroblockNumber, slotBytes, carrierBytes, macroblockPart, MacroblockNumbered, MacroblockRead}
+use Rattle.rules.specs.Macroblock.{pictureRows, macroblockNumber, slotBytes, carrierBytes, macroblockPart, slotStart, carrierStart, macroblockStart, macroblockAt, MacroblockNumbered, MacroblockRead, MacroblockLies}
 use Rattle.rules.proofs.Places.{place-in-below}
-use Rattle.rules.proofs.Blocks.{block-length}
+use Rattle.rules.proofs.Blocks.{start-within, block-length, part-taken, part-number, part-refused, part-bytes, part-within}
 use Rattle.rules.proofs.Picture.{carried-inside, carried-lies, carrier-one}
 use Rattle.rules.proofs.Check.{rows-on}
 
@@ -117,3 +120,67 @@ module _ (k : ℕ) (frame : List ℕ) (b : ℕ) where
         let i = carried-inside y s b (one .meets) in
         let wide = block-length y frame (s .channel) (s .sequence) (placeIn Video (s .video .0)) (z .0) (i .channel) (i .sequence) (place-in-below Video (s .video .0) (i .video)) in
         ap length (macroblock-carried s (one .meets)) ∙ length-drop 3 (blockAt y frame (s .channel) (s .sequence) (placeIn Video (s .video .0))) ∙ omega (arith, wide)
+
+-- ---- macroblock_at
+
+-- the bytes from a slot's start on are the slot's
+slot-start-bytes : (y : System) (frame : List ℕ) (s : Slot) → take 77 (drop (slotStart y s) frame) ≡ slotBytes y frame s
+unfolding slotStart slotBytes blockAt
+slot-start-bytes y frame s = sym (drop-part (startOf y (s .channel) (s .sequence) (placeIn Video (s .video .0))) 3 77 frame)
+
+module _ (k : ℕ) (frame : List ℕ) (b : ℕ) where
+  module _ (zero : macroblockNumber k frame b ≡ 0) where
+    start-bytes : (s : SystemNumber) → systemOf k ≡ s → take 77 (drop (macroblockStart s b) frame) ≡ inSystem [] (λ (y : System). carrierBytes y frame (carrierOf y b)) s
+    unfolding carrierStart carrierBytes
+    start-bytes NoSystem e = absurd (omega (arith, zero, macroblock-1 k frame b e))
+    start-bytes (Known y) e =
+        let z = macroblock-zero k frame b y e zero in
+        let one = carrier-one y b (z .1) in
+        let lies = carried-lies y (one .outcome) b (one .meets) .1 in
+        rw lies (slot-start-bytes y frame (one .outcome))
+
+    start-fits : (s : SystemNumber) → systemOf k ≡ s → macroblockStart s b + 77 ≤ length frame
+    unfolding carrierStart slotStart
+    start-fits NoSystem e = absurd (omega (arith, zero, macroblock-1 k frame b e))
+    start-fits (Known y) e =
+        let z = macroblock-zero k frame b y e zero in
+        let one = carrier-one y b (z .1) in
+        let s = one .outcome in
+        let i = carried-inside y s b (one .meets) in
+        let ends = start-within y (s .channel) (s .sequence) (placeIn Video (s .video .0)) (i .channel) (i .sequence) (place-in-below Video (s .video .0) (i .video)) in
+        rw (carried-lies y s b (one .meets) .1) (omega (arith, z .0, ends))
+
+  pub macroblock-lies : (r : Part) → r ≡ macroblockAt k frame b → MacroblockLies k frame b r
+  unfolding macroblockAt macroblockPart
+  macroblock-lies r e = record {
+    answer = e;
+    bytes = ap (bytesOf frame) e
+        ∙ part-bytes (macroblockNumber k frame b) (macroblockStart (systemOf k) b) 77 frame (macroblockPart k frame b)
+        (λ z. start-bytes z (systemOf k) refl ∙ sym (pick-true _ _ (eq-eqb _ 0 z)))
+        (macroblock-refused k frame b);
+  }
+
+  -- the two ways to it
+  pub macroblock-lies-stopped : (n : ℕ) → n ≡ macroblockNumber k frame b → (n ≡ 0 → ⊥) → (r : Part) → r ≡ noPart n → MacroblockLies k frame b r
+  unfolding macroblockAt
+  macroblock-lies-stopped n en d r e = macroblock-lies r (e ∙ ap noPart en ∙ sym (part-refused _ (macroblockStart (systemOf k) b) 77 (λ z. d (en ∙ z))))
+
+  pub macroblock-lies-found : (y : System) → systemOf k ≡ Known y → macroblockNumber k frame b ≡ 0 → (s : Slot) → carrierOf y b ≡ In s
+      → MacroblockLies k frame b (record { number = 0; start = slotStart y s; length = 77 })
+  unfolding macroblockAt carrierStart
+  macroblock-lies-found y known z s e = macroblock-lies _ (sym (part-taken _ (macroblockStart (systemOf k) b) 77 z ∙ rw (known, e) refl))
+
+  pub macroblock-lies-one : ExactlyOne Part (MacroblockLies k frame b)
+  macroblock-lies-one = record { outcome = macroblockAt k frame b; meets = macroblock-lies (macroblockAt k frame b) refl; only = λ o m. m .answer }
+
+  pub macroblock-lies-number : {r : Part} → MacroblockLies k frame b r → r .number ≡ macroblockNumber k frame b
+  unfolding macroblockAt
+  macroblock-lies-number m = ap (λ (r : Part). r .number) (m .answer) ∙ part-number (macroblockNumber k frame b) (macroblockStart (systemOf k) b) 77
+
+  pub macroblock-lies-refused : {r : Part} → MacroblockLies k frame b r → (macroblockNumber k frame b ≡ 0 → ⊥) → r ≡ noPart (macroblockNumber k frame b)
+  unfolding macroblockAt
+  macroblock-lies-refused m d = m .answer ∙ part-refused (macroblockNumber k frame b) (macroblockStart (systemOf k) b) 77 d
+
+  pub macroblock-lies-within : {r : Part} → MacroblockLies k frame b r → r .start + r .length ≤ length frame
+  unfolding macroblockAt
+  macroblock-lies-within m = rw (m .answer) (part-within (macroblockNumber k frame b) (macroblockStart (systemOf k) b) 77 frame (λ z. start-fits z (systemOf k) refl))

@@ -2,8 +2,11 @@
 use mathlib.Core.Path.{_≡_}
 use mathlib.Core.List.{List}
 use Prim.Native.Nat.{ℕ, _+_, _*_, _<_}
+use lib.Dec.{eqb}
 use lib.ListN.{take, drop}
+use Rattle.base.specs.Pick.{pick}
 use Rattle.rules.specs.declared.System.{System}
+use Rattle.rules.specs.declared.Part.{Part}
 use Rattle.rules.specs.Systems.{sequencesOf}
 
 -- "Block start: ((n·h + q)·150 + place)·80."
@@ -29,3 +32,16 @@ pub record Holds (y : System) (k h q p i : ℕ) : Type 0 where
   pub place : p < 150
   pub offset : i < 80
   pub is : k ≡ startOf y h q p + i
+
+-- ---- a part of a frame as an answer: a number, the first byte, the length
+
+-- "A refusal answers its number, otherwise zeros and an empty part"
+abbrev pub noPart : ℕ → Part
+noPart number = record { number = number; start = 0; length = 0 }
+
+unfoldable pub partAt : ℕ → ℕ → ℕ → Part
+partAt number start size = pick (eqb number 0) (record { number = 0; start = start; length = size }) (noPart number)
+
+-- the bytes of the frame that it says
+abbrev pub bytesOf : List ℕ → Part → List ℕ
+bytesOf frame r = take (r .length) (drop (r .start) frame)

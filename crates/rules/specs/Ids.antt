@@ -9,6 +9,7 @@ use Rattle.rules.specs.declared.Place.{Place}
 use Rattle.rules.specs.declared.BlockId.{BlockId}
 use Rattle.rules.specs.declared.IdAnswer.{IdAnswer}
 use Rattle.rules.specs.declared.IdAnswer.the-variants.{Named, Reserved, WrongLength}
+use Rattle.rules.specs.declared.IdValues.{IdValues}
 use Rattle.rules.specs.Places.{codeOf, sectionOf, entryAt}
 
 -- ---- the three bytes
@@ -54,13 +55,6 @@ abbrev pub blockAnswer : List ℕ → IdAnswer
 blockAnswer block = idAnswer (take 3 block)
 
 -- the paper's number and values for each answer
-pub record IdValues : Type 0 where
-  pub number : ℕ
-  pub section : ℕ
-  pub channel : ℕ
-  pub dseq : ℕ
-  pub dbn : ℕ
-
 abbrev pub idRefusal : ℕ → IdValues
 idRefusal k = record { number = k; section = 0; channel = 0; dseq = 0; dbn = 0 }
 

@@ -1,20 +1,22 @@
--- The calls `macroblock_number` and `macroblock`.
+-- The calls `macroblock_number`, `macroblock` and `macroblock_at`.
 use mathlib.Core.Path.{_≡_}
 use mathlib.Core.Bool.{not}
 use mathlib.Core.List.{List, [], _∷_, _++_}
-use Prim.Native.Nat.{ℕ}
+use Prim.Native.Nat.{ℕ, _+_}
 use lib.Dec.{eqb, ltb}
 use lib.ListN.{length, drop}
 use Rattle.base.specs.Calls.{Refusal, firstOf, _when_}
 use Rattle.base.specs.Pick.{pick}
 use Rattle.rules.specs.declared.System.{System}
+use Rattle.rules.specs.declared.SystemNumber.{SystemNumber}
 use Rattle.rules.specs.declared.Section.the-variants.{Video}
+use Rattle.rules.specs.declared.Part.{Part}
 use Rattle.rules.specs.declared.Slot.{Slot}
 use Rattle.rules.specs.declared.Carrier.{Carrier}
 use Rattle.rules.specs.declared.Carrier.the-variants.{In, NoSlot}
 use Rattle.rules.specs.Systems.{macroblocksOf, inSystem, systemOf, isNoSystem, passes, rowsIn, frameBytes}
 use Rattle.rules.specs.Places.{placeIn}
-use Rattle.rules.specs.Blocks.{blockAt}
+use Rattle.rules.specs.Blocks.{startOf, blockAt, partAt, bytesOf}
 use Rattle.rules.specs.Picture.{carrierOf}
 use Rattle.rules.specs.Check.{everySequence, unflagged, checkRows}
 
@@ -46,8 +48,27 @@ carrierBytes y frame NoSlot = []
 unfoldable pub macroblockPart : ℕ → List ℕ → ℕ → List ℕ
 macroblockPart k frame b = pick (eqb (macroblockNumber k frame b) 0) (inSystem [] (λ (y : System). carrierBytes y frame (carrierOf y b)) (systemOf k)) []
 
+-- the same part by its first byte and its length
+unfoldable pub slotStart : System → Slot → ℕ
+slotStart y s = startOf y (s .channel) (s .sequence) (placeIn Video (s .video .0)) + 3
+
+unfoldable pub carrierStart : System → Carrier → ℕ
+carrierStart y (In s) = slotStart y s
+carrierStart y NoSlot = 0
+
+abbrev pub macroblockStart : SystemNumber → ℕ → ℕ
+macroblockStart s b = inSystem 0 (λ (y : System). carrierStart y (carrierOf y b)) s
+
+unfoldable pub macroblockAt : ℕ → List ℕ → ℕ → Part
+macroblockAt k frame b = partAt (macroblockNumber k frame b) (macroblockStart (systemOf k) b) 77
+
 pub record MacroblockNumbered (k : ℕ) (frame : List ℕ) (b r : ℕ) : Type 0 where
   pub answer : r ≡ macroblockNumber k frame b
 
 pub record MacroblockRead (k : ℕ) (frame : List ℕ) (b : ℕ) (part : List ℕ) : Type 0 where
   pub answer : part ≡ macroblockPart k frame b
+
+pub record MacroblockLies (k : ℕ) (frame : List ℕ) (b : ℕ) (r : Part) : Type 0 where
+  pub answer : r ≡ macroblockAt k frame b
+  -- its bytes are those that `macroblock` answers
+  pub bytes : bytesOf frame r ≡ macroblockPart k frame b

@@ -1,4 +1,4 @@
--- The call `read_id`: "an ID read 4 and 11".
+-- The call `read_id`, by its enum and by its values: "an ID read 4 and 11".
 use mathlib.Core.Path.{_≡_}
 use mathlib.Core.Bool.{not}
 use mathlib.Core.List.{List, [], _∷_}
@@ -8,7 +8,8 @@ use lib.ListN.{length}
 use Rattle.base.specs.Calls.{firstOf, _when_}
 use Rattle.base.specs.Pick.{pick}
 use Rattle.rules.specs.declared.IdAnswer.{IdAnswer}
-use Rattle.rules.specs.Ids.{sectionBits, dseqBits, fscBit, fspBit, dbnByte, channelOf, idAnswer, IdValues, idRefusal, idValues}
+use Rattle.rules.specs.declared.IdValues.{IdValues}
+use Rattle.rules.specs.Ids.{sectionBits, dseqBits, fscBit, fspBit, dbnByte, channelOf, idAnswer, idRefusal, idValues}
 
 -- the refusals in their order: "an ID 3 bytes"; "5-7 reserved"
 unfoldable pub idNumber : List ℕ → ℕ
@@ -24,6 +25,11 @@ idSays id =
     (record { number = 0; section = sectionBits id; channel = channelOf (fscBit id) (fspBit id); dseq = dseqBits id; dbn = dbnByte id })
     (idRefusal (idNumber id))
 
+-- the answer as an enum
 pub record IdRead (id : List ℕ) (r : IdAnswer) : Type 0 where
   pub answer : r ≡ idAnswer id
   pub says : idValues r ≡ idSays id
+
+-- and by its values
+pub record IdSaid (id : List ℕ) (r : IdValues) : Type 0 where
+  pub answer : r ≡ idSays id

@@ -12,6 +12,8 @@ use Rattle.base.specs.Pick.{pick}
 use Rattle.rules.specs.declared.System.{System}
 use Rattle.rules.specs.declared.Place.{Place}
 use Rattle.rules.specs.declared.IdAnswer.{IdAnswer}
+use Rattle.rules.specs.declared.IdValues.{IdValues}
+use Rattle.rules.specs.declared.Part.{Part}
 use Rattle.rules.specs.declared.Survey.{Survey}
 use Rattle.rules.specs.declared.AudioAnswer.{AudioAnswer}
 use Rattle.rules.specs.declared.TimeAnswer.{TimeAnswer}
@@ -19,19 +21,19 @@ use Rattle.rules.specs.declared.Slot.{Slot}
 use Rattle.rules.specs.declared.Carried.the-variants.{Macroblock}
 use Rattle.rules.specs.Systems.{sequencesOf, halfOf, positionsOf, macroblocksOf}
 use Rattle.rules.specs.Ids.{idValues, idRefusal}
-use Rattle.rules.specs.Blocks.{blockAt}
+use Rattle.rules.specs.Blocks.{blockAt, noPart}
 use Rattle.rules.specs.Samples.{lost, numberOf, backOf}
 use Rattle.rules.specs.Sound.{byteOf}
 use Rattle.rules.specs.Picture.{carriedIn}
 use Rattle.rules.specs.Stream.{blocksIn, named, unnamed, failing}
 use Rattle.rules.specs.Records.{flat}
-use Rattle.rules.specs.ReadId.{idNumber, IdRead}
+use Rattle.rules.specs.ReadId.{idNumber, IdRead, IdSaid}
 use Rattle.rules.specs.Survey.{surveyNumber, sequenceNumber, refusal, FrameSurveyed, SequenceSurveyed}
-use Rattle.rules.specs.View.{viewNumber, ViewNumbered, Viewed}
+use Rattle.rules.specs.View.{viewNumber, ViewNumbered, Viewed, ViewLies}
 use Rattle.rules.specs.Check.{checkNumber, Checked}
 use Rattle.rules.specs.Reading.{soundBlock, soundNamed, readSample}
 use Rattle.rules.specs.Audio.{countFor, isAudio, audioNumber, AudioRead}
-use Rattle.rules.specs.Macroblock.{macroblockNumber, slotBytes, MacroblockNumbered, MacroblockRead}
+use Rattle.rules.specs.Macroblock.{macroblockNumber, slotBytes, MacroblockNumbered, MacroblockRead, MacroblockLies}
 use Rattle.rules.specs.Time.{timeNumber, timeRefused, timeFound, TimeRead}
 use Rattle.rules.specs.Salvage.{salvageNumber, Salvaged}
 use Rattle.rules.specs.Written.{Lent, storedWord, writtenBlock}
@@ -52,6 +54,7 @@ pub record Answers (Outcome : Type 0) (Meets : Outcome → Type 0) (answered : O
 -- "No call relies on checks made earlier by somebody else": nothing is asked of any input
 pub record EveryCall : Type 0 where
   pub read-id : (id : List ℕ) → Answers IdAnswer (IdRead id) (λ o. idValues o .number) (idNumber id) (λ o. idValues o ≡ idRefusal (idValues o .number))
+  pub id-values : (id : List ℕ) → Answers IdValues (IdSaid id) (λ o. o .number) (idNumber id) (λ o. o ≡ idRefusal (o .number))
   pub survey : (k : ℕ) (frame list : List ℕ)
       → Answers (Survey × List ℕ) (λ o. FrameSurveyed k frame list (o .0) (o .1)) (λ o. o .0 .number) (surveyNumber k (length frame))
       (λ o. o ≡ (refusal (o .0 .number), list))
@@ -60,12 +63,16 @@ pub record EveryCall : Type 0 where
       (λ o. o ≡ (refusal (o .0 .number), list))
   pub view : (k : ℕ) (frame : List ℕ) (h q : ℕ) (p : Place)
       → Answers (ℕ × List ℕ) (λ o. ViewNumbered k frame h q p (o .0) × Viewed k frame h q p (o .1)) (λ o. o .0) (viewNumber k frame h q p) (λ o. o .1 ≡ [])
+  pub view-at : (k : ℕ) (frame : List ℕ) (h q : ℕ) (p : Place)
+      → Answers Part (ViewLies k frame h q p) (λ o. o .number) (viewNumber k frame h q p) (λ o. o ≡ noPart (o .number))
   pub check-frame : (k : ℕ) (frame : List ℕ) → Answers ℕ (Checked k frame) (λ o. o) (checkNumber k frame) (λ o. o ≡ checkNumber k frame)
   pub read-audio : (k : ℕ) (frame : List ℕ) (c : ℕ) (samples : List ℤ)
       → Answers (AudioAnswer × List ℤ) (λ o. AudioRead k frame c samples (o .0) (o .1)) (λ o. o .0 .number) (audioNumber k frame c (length samples))
       (λ o. o ≡ (record { number = o .0 .number; count = 0 }, samples))
   pub macroblock : (k : ℕ) (frame : List ℕ) (b : ℕ)
       → Answers (ℕ × List ℕ) (λ o. MacroblockNumbered k frame b (o .0) × MacroblockRead k frame b (o .1)) (λ o. o .0) (macroblockNumber k frame b) (λ o. o .1 ≡ [])
+  pub macroblock-at : (k : ℕ) (frame : List ℕ) (b : ℕ)
+      → Answers Part (MacroblockLies k frame b) (λ o. o .number) (macroblockNumber k frame b) (λ o. o ≡ noPart (o .number))
   pub read-time : (k : ℕ) (frame : List ℕ) → Answers TimeAnswer (TimeRead k frame) (λ o. o .number) (timeNumber k frame) (λ o. o ≡ timeRefused (o .number))
   pub salvage : (k : ℕ) (frame : List ℕ) (samples : List ℤ) (list : List ℕ)
       → Answers (Survey × List ℤ × List ℕ) (λ o. Salvaged k frame samples list (o .0) (o .1) (o .2)) (λ o. o .0 .number) (salvageNumber k frame (length samples))

@@ -1,4 +1,4 @@
--- The calls `view_number` and `view`: "A block view uses 1, 2, 3 and its own block's 11-15."
+-- The calls `view_number`, `view` and `view_at`: "A block view uses 1, 2, 3 and its own block's 11-15."
 use mathlib.Core.Path.{_≡_}
 use mathlib.Core.Bool.{not, _||_}
 use mathlib.Core.List.{List, [], _∷_}
@@ -10,8 +10,9 @@ use Rattle.base.specs.Pick.{pick}
 use Rattle.rules.specs.declared.System.{System}
 use Rattle.rules.specs.declared.SystemNumber.{SystemNumber}
 use Rattle.rules.specs.declared.Place.{Place}
+use Rattle.rules.specs.declared.Part.{Part}
 use Rattle.rules.specs.Systems.{inSystem, systemOf, isNoSystem, frameBytes}
-use Rattle.rules.specs.Blocks.{blockAt}
+use Rattle.rules.specs.Blocks.{startOf, blockAt, partAt, bytesOf}
 use Rattle.rules.specs.Faults.{faultAt}
 use Rattle.rules.specs.Survey.{outsideSequences}
 
@@ -34,8 +35,20 @@ viewNumber k frame h q p = firstOf (
 unfoldable pub viewPart : ℕ → List ℕ → ℕ → ℕ → Place → List ℕ
 viewPart k frame h q p = pick (eqb (viewNumber k frame h q p) 0) (viewedBlock (systemOf k) frame h q (p .0)) []
 
+-- the same part by its first byte and its length
+abbrev pub viewedStart : SystemNumber → ℕ → ℕ → ℕ → ℕ
+viewedStart s h q p = inSystem 0 (λ (y : System). startOf y h q p) s
+
+unfoldable pub viewAt : ℕ → List ℕ → ℕ → ℕ → Place → Part
+viewAt k frame h q p = partAt (viewNumber k frame h q p) (viewedStart (systemOf k) h q (p .0)) 80
+
 pub record ViewNumbered (k : ℕ) (frame : List ℕ) (h q : ℕ) (p : Place) (r : ℕ) : Type 0 where
   pub answer : r ≡ viewNumber k frame h q p
 
 pub record Viewed (k : ℕ) (frame : List ℕ) (h q : ℕ) (p : Place) (part : List ℕ) : Type 0 where
   pub answer : part ≡ viewPart k frame h q p
+
+pub record ViewLies (k : ℕ) (frame : List ℕ) (h q : ℕ) (p : Place) (r : Part) : Type 0 where
+  pub answer : r ≡ viewAt k frame h q p
+  -- its bytes are those that `view` answers
+  pub bytes : bytesOf frame r ≡ viewPart k frame h q p

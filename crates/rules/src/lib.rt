@@ -62,6 +62,16 @@ pub enum IdAnswer {
     WrongLength,
 }
 
+// The paper's number and values for an answer to an ID. This and the other answers that C is handed lie as C lays them.
+#[repr(C)]
+pub struct IdValues {
+    pub number: u32,
+    pub section: u32,
+    pub channel: u32,
+    pub dseq: u32,
+    pub dbn: u32,
+}
+
 // A survey record: where a block stands that does not name its place, and its fault.
 pub struct Fault {
     pub channel: u32,
@@ -71,10 +81,19 @@ pub struct Fault {
 }
 
 // What a survey answers, and salvage.
+#[repr(C)]
 pub struct Survey {
     pub number: u32,
     pub total: u32,
     pub kept: u32,
+}
+
+// A part of a frame, by its first byte and its length.
+#[repr(C)]
+pub struct Part {
+    pub number: u32,
+    pub start: u32,
+    pub length: u32,
 }
 
 // A pack: its header PC0 and four bytes.
@@ -125,12 +144,14 @@ pub enum Carrier {
 }
 
 // What an audio read answers.
+#[repr(C)]
 pub struct AudioAnswer {
     pub number: u32,
     pub count: u32,
 }
 
 // What a time code read answers: four bytes of time code and four of binary group.
+#[repr(C)]
 pub struct TimeAnswer {
     pub number: u32,
     pub time: [u8; 4],

@@ -1,6 +1,6 @@
 -- What a start is, and the ways out of the public calls. s is what the code's `system_of` answers, n the frame's bytes. Assumes nothing.
 use mathlib.Core.Path.{_≡_, refl, sym, _∙_}
-use mathlib.Core.List.{List, []}
+use mathlib.Core.List.{List}
 use mathlib.Core.Bool.{Bool, true, false, not, _||_}
 use Prim.Native.Nat.{ℕ, _+_, _*_, _≤_, _-_}
 use native.Mathlib.Omega.{arith}
@@ -11,17 +11,18 @@ use Rattle.base.proofs.Parts.{range-part}
 use Rattle.base.proofs.Picks.{neither}
 use Rattle.rules.specs.declared.System.{System}
 use Rattle.rules.specs.declared.Place.{Place}
+use Rattle.rules.specs.declared.Part.{Part}
 use Rattle.rules.specs.declared.SystemNumber.the-variants.{Known, NoSystem}
 use Rattle.rules.specs.declared.SystemNumber.{SystemNumber}
 use Rattle.rules.specs.Systems.{sequencesOf, systemOf}
 use Rattle.rules.specs.Places.{place}
-use Rattle.rules.specs.Blocks.{blockAt}
+use Rattle.rules.specs.Blocks.{blockAt, noPart}
 use Rattle.rules.specs.Faults.{faultAt}
 use Rattle.rules.specs.Survey.{outsideSequences}
-use Rattle.rules.specs.View.{viewNumber, ViewNumbered, Viewed}
+use Rattle.rules.specs.View.{viewNumber, ViewNumbered, Viewed, ViewLies}
 use Rattle.rules.proofs.Systems.{sequences-le}
 use Rattle.rules.proofs.Blocks.{start-within}
-use Rattle.rules.proofs.Calls.{inside-means, view-1, view-2, view-3, view-fault, view-zero, view-refused, view-taken}
+use Rattle.rules.proofs.Calls.{inside-means, view-1, view-2, view-3, view-fault, view-zero, view-lies-stopped, view-lies-found, view-lies-within}
 use Rattle.views.specs.Asked.{InFrame, StartIs}
 
 -- ---- block_start
@@ -34,14 +35,14 @@ start-is y h q p n i e =
       small = rw e (omega (arith, start-within y h q p (i .channel) (i .sequence) (i .place), sequences-le y));
     }
 
--- ---- view_number and view
+-- ---- view_number, view_at and view
 
 module _ (k : ℕ) (frame : List ℕ) (h q : ℕ) (p : Place) (s : SystemNumber) (es : s ≡ systemOf k) where
   pub view-no-system : s ≡ NoSystem → ViewNumbered k frame h q p 1
   view-no-system e = record { answer = sym (view-1 k frame h q p (sym es ∙ e)) }
 
-  pub part-no-system : s ≡ NoSystem → Viewed k frame h q p []
-  part-no-system e = record { answer = sym (view-refused k frame h q p (λ z. omega (arith, z, view-1 k frame h q p (sym es ∙ e)))) }
+  pub lies-no-system : s ≡ NoSystem → (r : Part) → r ≡ noPart 1 → ViewLies k frame h q p r
+  lies-no-system e = view-lies-stopped k frame h q p 1 (sym (view-1 k frame h q p (sym es ∙ e))) (λ z. omega arith)
 
   module _ (y : System) (e : s ≡ Known y) where
     known : systemOf k ≡ Known y
@@ -69,22 +70,25 @@ module _ (k : ℕ) (frame : List ℕ) (h q : ℕ) (p : Place) (s : SystemNumber)
 
     -- r is the number
     module _ (r : ℕ) (er : ViewNumbered k frame h q p r) where
-      pub part-refused : (r ≡ 0 → ⊥) → Viewed k frame h q p []
-      part-refused d = record { answer = sym (view-refused k frame h q p (λ z. d (er .answer ∙ z))) }
+      pub lies-refused : (r ≡ 0 → ⊥) → (t : Part) → t ≡ noPart r → ViewLies k frame h q p t
+      lies-refused = view-lies-stopped k frame h q p r (er .answer)
 
       module _ (z : r ≡ 0) where
         zero : viewNumber k frame h q p ≡ 0
         zero = sym (er .answer) ∙ z
 
-        pub part-in : InFrame y h q (p .0)
-        part-in = let w = view-zero k frame h q p y known zero in record { channel = w .1; sequence = w .2; place = w .3 }
+        pub lies-in : InFrame y h q (p .0)
+        lies-in = let w = view-zero k frame h q p y known zero in record { channel = w .1; sequence = w .2; place = w .3 }
 
-        pub part-within : (at : ℕ) → StartIs y h q (p .0) at → at + 80 ≤ length frame
-        part-within at st = omega (arith, st .within, view-zero k frame h q p y known zero .0)
+        pub lies-found : (at : ℕ) → StartIs y h q (p .0) at → ViewLies k frame h q p (record { number = 0; start = at; length = 80 })
+        lies-found at st = rw (st .is) (view-lies-found k frame h q p y known zero)
 
-        pub part-viewed : (at : ℕ) → StartIs y h q (p .0) at → Viewed k frame h q p (take (at + 80 - at) (drop at frame))
-        unfolding blockAt
-        part-viewed at st = record { answer = rw (range-part at 80 frame, st .is) refl ∙ sym (view-taken k frame h q p y known zero) }
+module _ (k : ℕ) (frame : List ℕ) (h q : ℕ) (p : Place) (r : Part) (m : ViewLies k frame h q p r) where
+  pub part-ends : r .start + r .length ≤ length frame
+  part-ends = view-lies-within k frame h q p m
+
+  pub part-viewed : Viewed k frame h q p (take (r .start + r .length - r .start) (drop (r .start) frame))
+  part-viewed = record { answer = range-part (r .start) (r .length) frame ∙ m .bytes }
 
 -- a place that is not outside is in the frame
 pub view-in : (y : System) (h q : ℕ) (p : Place) (o : Bool) → o ≡ outsideSequences (Known y) h q → (o || leb 150 (p .0)) ≡ false → InFrame y h q (p .0)

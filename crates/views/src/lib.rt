@@ -1,8 +1,9 @@
-// The view of one block: its number by one call, its bytes as a part of the frame by another.
-ghost use Rattle.rules.specs.View.{ViewNumbered, Viewed};
+// The view of one block: its number by one call, its bytes as a part of the frame by another, or where that part lies.
+ghost use Rattle.rules.specs.View.{ViewLies, ViewNumbered, Viewed};
 ghost use Rattle.views.specs.Asked.{InFrame, StartIs};
 use layout::BLOCK;
 use layout::PLACES;
+use rules::Part;
 use rules::Place;
 use rules::System;
 use rules::SystemNumber;
@@ -37,16 +38,30 @@ pub fn view_number(system: u32, frame: &[u8], channel: u32, sequence: u32, place
     faults::fault_at(&frame[at..at + BLOCK], channel, sequence, place)
 }
 
+// Where the view of a block lies: its first byte and its length, 80; zeros where its number is a refusal.
+pub fn view_at(system: u32, frame: &[u8], channel: u32, sequence: u32, place: Place) -> Part
+    ensures { λ r. ⌜ ViewLies system (now (frame .entry)) channel sequence place r ⌝ }
+{
+    let SystemNumber::Known(y) = layout::system_of(system) else {
+        return layout::no_part(1);
+    };
+    let number = view_number(system, frame, channel, sequence, place);
+    if number != 0 {
+        return layout::no_part(number);
+    }
+    Part {
+        number: 0,
+        start: block_start(y, channel, sequence, place) as u32,
+        length: 80,
+    }
+}
+
 // The 80 bytes of a block, a part of the frame; none where its number is a refusal.
 pub fn view(system: u32, frame: &[u8], channel: u32, sequence: u32, place: Place) -> &[u8]
     ensures { λ r. ⌜ Viewed system (now (frame .entry)) channel sequence place (now r) ⌝ }
 {
-    let SystemNumber::Known(y) = layout::system_of(system) else {
-        return &frame[0..0];
-    };
-    if view_number(system, frame, channel, sequence, place) != 0 {
-        return &frame[0..0];
-    }
-    let at = block_start(y, channel, sequence, place);
-    &frame[at..at + BLOCK]
+    let part = view_at(system, frame, channel, sequence, place);
+    let start = part.start as usize;
+    let end = start + part.length as usize;
+    &frame[start..end]
 }

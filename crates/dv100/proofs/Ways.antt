@@ -1,0 +1,29 @@
+-- The ways out of `values`, and what `dv100_read_id` says. Assumes nothing.
+use mathlib.Core.Path.{_≡_, refl, _∙_}
+use mathlib.Core.List.{List}
+use Prim.Native.Nat.{ℕ}
+use Rattle.rules.specs.declared.BlockId.{BlockId}
+use Rattle.rules.specs.declared.IdAnswer.{IdAnswer}
+use Rattle.rules.specs.declared.IdAnswer.the-variants.{Named, Reserved, WrongLength}
+use Rattle.rules.specs.declared.IdValues.{IdValues}
+use Rattle.rules.specs.Places.{codeOf}
+use Rattle.rules.specs.Ids.{idRefusal, idValues}
+use Rattle.rules.specs.ReadId.{IdRead, IdSaid}
+
+-- ---- values
+
+module _ (a : IdAnswer) where
+  pub values-named : (b : BlockId) → a ≡ Named b → (code : ℕ) → code ≡ codeOf (b .section)
+      → record { number = 0; section = code; channel = b .channel; dseq = b .dseq; dbn = b .dbn .0 } ≡ idValues a
+  values-named b e code ec = rw (e, ec) refl
+
+  pub values-reserved : a ≡ Reserved → (r : IdValues) → r ≡ idRefusal 11 → r ≡ idValues a
+  values-reserved e r er = er ∙ rw e refl
+
+  pub values-wrong : a ≡ WrongLength → (r : IdValues) → r ≡ idRefusal 4 → r ≡ idValues a
+  values-wrong e r er = er ∙ rw e refl
+
+-- ---- dv100_read_id
+
+pub values-said : (id : List ℕ) (a : IdAnswer) → IdRead id a → (r : IdValues) → r ≡ idValues a → IdSaid id r
+values-said id a m r e = record { answer = e ∙ m .says }

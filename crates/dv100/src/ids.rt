@@ -1,0 +1,40 @@
+// The answer to an ID by its values, for C, which has no enum with fields.
+ghost use mathlib.Core.Path.{_≡_};
+ghost use Rattle.rules.specs.Ids.{idRefusal, idValues};
+use rules::BlockId;
+use rules::IdAnswer;
+use rules::IdValues;
+
+// A refusal: its number, and zeros.
+fn refused(number: u32) -> IdValues
+    ensures { λ r. ⌜ r ≡ idRefusal number ⌝ }
+{
+    IdValues {
+        number: number,
+        section: 0,
+        channel: 0,
+        dseq: 0,
+        dbn: 0,
+    }
+}
+
+// The paper's number and values.
+pub(crate) fn values(answer: IdAnswer) -> IdValues
+    ensures { λ r. ⌜ r ≡ idValues answer ⌝ }
+{
+    match answer {
+        IdAnswer::Named(b) => {
+            let section = b.section;
+            let number = b.dbn;
+            IdValues {
+                number: 0,
+                section: layout::section_code(section),
+                channel: b.channel,
+                dseq: b.dseq,
+                dbn: number.0,
+            }
+        }
+        IdAnswer::Reserved => refused(11),
+        IdAnswer::WrongLength => refused(4),
+    }
+}
