@@ -1,0 +1,44 @@
+#!/bin/bash
+# The C header beside the exports: every prototype and struct is what the sources say (tests/header.pl), every name is in the static
+# library and no other, and the header is good C and C++ by itself. A difference fails.
+set -u
+cd "$(dirname "$0")/.."
+. tests/c/env.sh
+work=$(mktemp -d)
+trap 'rm -rf "$work"' EXIT
+failed=0
+
+# same NAME WANTED GOT: two files
+same() {
+    if diff "$2" "$3" >"$work/difference"; then
+        echo "header test $1 passed"
+    else
+        failed=1
+        echo "header test $1 FAILED:"
+        cat "$work/difference"
+    fi
+}
+
+build_library || exit 1
+perl tests/header.pl >"$work/sources"
+perl tests/header.pl --header >"$work/header"
+same prototypes "$work/sources" "$work/header"
+
+# ten calls and five structs
+wc -l <"$work/header" >"$work/lines"
+echo 15 >"$work/fifteen"
+same fifteen-lines "$work/fifteen" "$work/lines"
+
+grep -o 'dv100_[a-z_]*(' "$work/header" | tr -d '(' | sort >"$work/declared"
+nm -g --defined-only "$LIBRARY" | awk 'NF == 3 { print $3 }' | sort >"$work/exported"
+same exports "$work/declared" "$work/exported"
+
+# the library needs nothing but itself
+nm -u "$LIBRARY" | awk 'NF == 2' >"$work/needed"
+same stands-alone /dev/null "$work/needed"
+
+echo '#include "dv100.h"' >"$work/alone.c"
+$CC -std=c99 -Wall -Wextra -pedantic -Werror -Iinclude -c "$work/alone.c" -o "$work/alone.o" >"$work/said" 2>&1
+same c99 /dev/null "$work/said"
+
+[ "$failed" -eq 0 ] && echo "header: 10 calls and 5 structs agree with the exports"
