@@ -1,0 +1,1050 @@
+/* Lays the library beside an independent decoder (paper.h): frames written, frames damaged, the known places of the scope
+ * paper, document 01, and the printed rows of the Recommendation's tables. A line says "agree", or "DIFFERS" and where. */
+#include "dv100.h"
+#include "paper.h"
+#include "printed.h"
+
+#include <stdarg.h>
+#include <stdio.h>
+#include <string.h>
+
+enum {
+    MOST_BLOCKS = PAPER_DIF_CHANNELS * PAPER_MOST_SEQUENCES * PAPER_PLACES,
+    MOST_FRAME = MOST_BLOCKS * PAPER_BLOCK_BYTES,
+    MOST_SOUND = PAPER_AUDIO_CHANNELS * PAPER_MOST_SAMPLES,
+    MOST_PICTURE = PAPER_MOST_MACROBLOCKS * PAPER_PAYLOAD_BYTES,
+    SEQUENCE_BYTES = PAPER_PLACES * PAPER_BLOCK_BYTES,
+    RECORD = 4,
+    UNTOUCHED = 0x5a5a5a5a
+};
+
+static struct paper_map maps[PAPER_SYSTEMS];
+
+/* A frame and what it was written from. */
+struct trial {
+    unsigned system, count;
+    const struct paper_map *map;
+    int32_t sound[MOST_SOUND];
+    uint8_t macroblocks[MOST_PICTURE];
+    uint8_t time_code[4], binary_group[4];
+    uint8_t frame[MOST_FRAME];
+    size_t frame_bytes;
+};
+
+/* ---- lines of the output */
+
+struct tally {
+    char about[128], first[128];
+    const char *things;
+    unsigned long compared, differed;
+};
+
+static unsigned lines_that_differ;
+
+static struct tally tally_of(const char *things, const char *about, ...)
+{
+    struct tally tally = {.things = things};
+    va_list values;
+    va_start(values, about);
+    vsnprintf(tally.about, sizeof tally.about, about, values);
+    va_end(values);
+    return tally;
+}
+
+/* Keeps where, if this is the first that differs. */
+static void note(struct tally *tally, const char *where, va_list values)
+{
+    if (tally->differed++ == 0)
+        vsnprintf(tally->first, sizeof tally->first, where, values);
+}
+
+/* One comparison that counts among the things of the line. */
+static void compare(struct tally *tally, int equal, const char *where, ...)
+{
+    va_list values;
+    tally->compared++;
+    va_start(values, where);
+    if (!equal)
+        note(tally, where, values);
+    va_end(values);
+}
+
+/* One comparison beside those that count. */
+static void require(struct tally *tally, int holds, const char *where, ...)
+{
+    va_list values;
+    va_start(values, where);
+    if (!holds)
+        note(tally, where, values);
+    va_end(values);
+}
+
+static void print_tally(const struct tally *tally)
+{
+    printf("%s: %lu %s ", tally->about, tally->compared, tally->things);
+    if (tally->differed == 0) {
+        puts("agree");
+        return;
+    }
+    lines_that_differ++;
+    printf("DIFFERS in %lu, first %s\n", tally->differed, tally->first);
+}
+
+/* A tally about an aspect of a written frame. */
+static struct tally tally_of_trial(const struct trial *trial, const char *things, const char *aspect)
+{
+    return tally_of(things, "%s, %u samples, %s", trial->map->system->name, trial->count, aspect);
+}
+
+/* ---- what frames are written from */
+
+/* SplitMix64. */
+static uint64_t random_state = 1620;
+
+static uint64_t random_word(void)
+{
+    uint64_t z = random_state += 0x9e3779b97f4a7c15u;
+    z = (z ^ z >> 30) * 0xbf58476d1ce4e5b9u;
+    z = (z ^ z >> 27) * 0x94d049bb133111ebu;
+    return z ^ z >> 31;
+}
+
+static unsigned below(unsigned limit)
+{
+    return (unsigned)(random_word() >> 32) % limit;
+}
+
+static void random_bytes(uint8_t *bytes, size_t length)
+{
+    for (size_t at = 0; at < length; at++)
+        bytes[at] = (uint8_t)below(256);
+}
+
+/* Any level, the two extremes and lost more often than chance. */
+static int32_t random_sample(void)
+{
+    switch (below(16)) {
+    case 0:
+        return DV100_LOST;
+    case 1:
+        return -32768;
+    case 2:
+        return 32767;
+    default:
+        return (int32_t)below(65536) - 32768;
+    }
+}
+
+/* Two decimal digits, with the bits of flags at random. */
+static uint8_t random_digits(unsigned limit, unsigned flags)
+{
+    unsigned value = below(limit);
+    return (uint8_t)(value / 10 << 4 | value % 10 | (below(256) & flags));
+}
+
+static void random_time_code(const struct paper_system *system, uint8_t pc[4])
+{
+    pc[0] = random_digits(system->is_50_hz ? 25 : 30, 0xc0);
+    pc[1] = random_digits(60, 0x80);
+    pc[2] = random_digits(60, 0x80);
+    pc[3] = random_digits(24, 0xc0);
+    if (system->is_50_hz)
+        pc[0] |= 0x40;
+}
+
+static void random_content(struct trial *trial)
+{
+    for (unsigned at = 0; at < MOST_SOUND; at++)
+        trial->sound[at] = random_sample();
+    random_bytes(trial->macroblocks, sizeof trial->macroblocks);
+    random_time_code(trial->map->system, trial->time_code);
+    random_bytes(trial->binary_group, sizeof trial->binary_group);
+}
+
+/* Silence, a picture of zeros, time 0. */
+static void plain_content(struct trial *trial)
+{
+    memset(trial->sound, 0, sizeof trial->sound);
+    memset(trial->macroblocks, 0, sizeof trial->macroblocks);
+    memset(trial->time_code, 0, sizeof trial->time_code);
+    memset(trial->binary_group, 0, sizeof trial->binary_group);
+    if (trial->map->system->is_50_hz)
+        trial->time_code[0] = 0x40;
+}
+
+static void set_up(struct trial *trial, unsigned system, unsigned count)
+{
+    trial->system = system;
+    trial->count = count;
+    trial->map = &maps[system];
+    trial->frame_bytes = paper_frame_bytes(trial->map->system);
+}
+
+static uint32_t write_frame(struct trial *trial)
+{
+    memset(trial->frame, 0x5a, sizeof trial->frame);
+    return dv100_write(trial->system, trial->count, trial->sound, PAPER_AUDIO_CHANNELS * trial->count, trial->macroblocks,
+                       trial->map->system->macroblocks * PAPER_PAYLOAD_BYTES, trial->time_code, 4, trial->binary_group, 4,
+                       trial->frame, trial->frame_bytes);
+}
+
+/* ---- faulty blocks */
+
+/* Four numbers for each block that does not name its place, in stream order, as the decoder sees them; how many blocks. */
+static unsigned decoder_faults(const struct trial *trial, uint32_t *list)
+{
+    unsigned total = 0;
+    for (unsigned dif_channel = 0; dif_channel < PAPER_DIF_CHANNELS; dif_channel++)
+        for (unsigned dif_sequence = 0; dif_sequence < trial->map->system->dif_sequences; dif_sequence++)
+            for (unsigned place = 0; place < PAPER_PLACES; place++) {
+                unsigned fault = paper_fault(trial->map, trial->frame, dif_channel, dif_sequence, place);
+                if (fault == 0)
+                    continue;
+                uint32_t *record = list + RECORD * total++;
+                record[0] = dif_channel;
+                record[1] = dif_sequence;
+                record[2] = place;
+                record[3] = fault;
+            }
+    return total;
+}
+
+static void clear_list(uint32_t *list, size_t length)
+{
+    for (size_t at = 0; at < length; at++)
+        list[at] = UNTOUCHED;
+}
+
+/* An answered list of a length against the due records: kept ones equal, the others untouched. */
+static void require_list(struct tally *tally, struct dv100_survey said, const uint32_t *list, size_t length,
+                         const uint32_t *due, unsigned total)
+{
+    unsigned kept = total < length / RECORD ? total : (unsigned)(length / RECORD);
+    require(tally, said.number == 0 && said.total == total && said.kept == kept, "total %u kept %u, not %u and %u",
+            said.total, said.kept, total, kept);
+    for (unsigned record = 0; record < kept; record++)
+        require(tally, memcmp(list + RECORD * record, due + RECORD * record, RECORD * sizeof *due) == 0,
+                "record %u, due (%u,%u,%u) fault %u", record, due[RECORD * record], due[RECORD * record + 1],
+                due[RECORD * record + 2], due[RECORD * record + 3]);
+    for (size_t at = RECORD * (size_t)kept; at < length; at++)
+        require(tally, list[at] == UNTOUCHED, "list entry %zu behind the kept records", at);
+}
+
+/* ---- 1. written frames */
+
+static void compare_ids(const struct trial *trial)
+{
+    struct tally tally = tally_of_trial(trial, "blocks", "IDs as due, dv100_survey finds none");
+    for (unsigned dif_channel = 0; dif_channel < PAPER_DIF_CHANNELS; dif_channel++)
+        for (unsigned dif_sequence = 0; dif_sequence < trial->map->system->dif_sequences; dif_sequence++)
+            for (unsigned place = 0; place < PAPER_PLACES; place++) {
+                const uint8_t *block =
+                    trial->frame + paper_place_start(trial->map->system, dif_channel, dif_sequence, place);
+                uint8_t id[3];
+                paper_write_id(paper_id_of_place(trial->map, dif_channel, dif_sequence, place), id);
+                compare(&tally,
+                        memcmp(block, id, 3) == 0 &&
+                            paper_fault(trial->map, trial->frame, dif_channel, dif_sequence, place) == 0,
+                        "(%u,%u,%u)", dif_channel, dif_sequence, place);
+            }
+    struct dv100_survey said = dv100_survey(trial->system, trial->frame, trial->frame_bytes, NULL, 0);
+    require(&tally, said.number == 0 && said.total == 0, "dv100_survey: %u faults", said.total);
+    require(&tally, dv100_check(trial->system, trial->frame, trial->frame_bytes) == 0, "dv100_check");
+    print_tally(&tally);
+}
+
+static void compare_headers(const struct trial *trial)
+{
+    struct tally tally = tally_of_trial(trial, "payloads", "headers");
+    uint8_t due[PAPER_PAYLOAD_BYTES];
+    paper_header(trial->map->system, due);
+    for (unsigned dif_channel = 0; dif_channel < PAPER_DIF_CHANNELS; dif_channel++)
+        for (unsigned dif_sequence = 0; dif_sequence < trial->map->system->dif_sequences; dif_sequence++) {
+            struct paper_id h0 = {PAPER_HEADER, dif_channel, dif_sequence, 0};
+            compare(&tally, memcmp(trial->frame + paper_block_start(trial->map, h0) + PAPER_PAYLOAD, due, sizeof due) == 0,
+                    "(%u,%u)", dif_channel, dif_sequence);
+        }
+    print_tally(&tally);
+}
+
+static int all_ones(const uint8_t *bytes, size_t length)
+{
+    while (length > 0 && *bytes == 0xff)
+        bytes++, length--;
+    return length == 0;
+}
+
+/* The eight bytes that an SSYB has to have: Tables 8 and 10. */
+static void due_ssyb(const struct trial *trial, unsigned dif_sequence, unsigned ssyb, uint8_t due[8])
+{
+    enum paper_ssyb_pack kind = paper_table_10(trial->map->system, dif_sequence, ssyb);
+    memset(due, 0xff, 8);
+    due[0] = (uint8_t)(paper_fr(trial->map->system, dif_sequence) << 7 | 0x7f);
+    due[1] = (uint8_t)(0xf0 | ssyb);
+    if (kind == PAPER_RESERVED)
+        return;
+    due[3] = kind == PAPER_TC ? 0x13 : 0x14;
+    memcpy(due + 4, kind == PAPER_TC ? trial->time_code : trial->binary_group, 4);
+}
+
+static void compare_subcode(const struct trial *trial)
+{
+    struct tally tally = tally_of_trial(trial, "SSYBs", "subcode");
+    for (unsigned dif_channel = 0; dif_channel < PAPER_DIF_CHANNELS; dif_channel++)
+        for (unsigned dif_sequence = 0; dif_sequence < trial->map->system->dif_sequences; dif_sequence++)
+            for (unsigned ssyb = 0; ssyb < PAPER_SSYBS; ssyb++) {
+                const uint8_t *bytes = paper_ssyb(trial->map, trial->frame, dif_channel, dif_sequence, ssyb);
+                uint8_t due[8];
+                due_ssyb(trial, dif_sequence, ssyb, due);
+                compare(&tally, memcmp(bytes, due, 8) == 0 && (ssyb % 6 != 5 || all_ones(bytes + 8, 29)), "(%u,%u) SSYB %u",
+                        dif_channel, dif_sequence, ssyb);
+            }
+    print_tally(&tally);
+}
+
+/* A source pack at its number, behind it the source control pack, which document 01 has as header and ones where Tables 15 and
+ * 20 have some zeros; ones everywhere else. */
+static int pack_as_due(const uint8_t *bytes, unsigned number, unsigned source_number,
+                       const uint8_t source[PAPER_PACK_BYTES])
+{
+    if (number == source_number)
+        return memcmp(bytes, source, PAPER_PACK_BYTES) == 0;
+    if (number == source_number + 1)
+        return bytes[0] == (source[0] | 1) && all_ones(bytes + 1, 4);
+    return all_ones(bytes, PAPER_PACK_BYTES);
+}
+
+static void compare_vaux(const struct trial *trial)
+{
+    struct tally tally = tally_of_trial(trial, "packs", "VAUX");
+    uint8_t vs[PAPER_PACK_BYTES];
+    paper_vs(trial->map->system, vs);
+    for (unsigned dif_channel = 0; dif_channel < PAPER_DIF_CHANNELS; dif_channel++)
+        for (unsigned dif_sequence = 0; dif_sequence < trial->map->system->dif_sequences; dif_sequence++)
+            for (unsigned pack = 0; pack < 45; pack++) {
+                const uint8_t *bytes = paper_vaux_pack(trial->map, trial->frame, dif_channel, dif_sequence, pack);
+                compare(&tally,
+                        pack_as_due(bytes, pack, paper_vs_number(dif_sequence), vs) &&
+                            (pack % 15 != 14 || all_ones(bytes + PAPER_PACK_BYTES, 2)),
+                        "(%u,%u) pack %u", dif_channel, dif_sequence, pack);
+            }
+    print_tally(&tally);
+}
+
+static void compare_aaux(const struct trial *trial)
+{
+    struct tally tally = tally_of_trial(trial, "packs", "AAUX");
+    for (unsigned dif_channel = 0; dif_channel < PAPER_DIF_CHANNELS; dif_channel++)
+        for (unsigned dif_sequence = 0; dif_sequence < trial->map->system->dif_sequences; dif_sequence++)
+            for (unsigned pack = 0; pack < 9; pack++) {
+                uint8_t as[PAPER_PACK_BYTES];
+                paper_as(trial->map->system, paper_audio_channel(trial->map->system, dif_channel, dif_sequence),
+                         trial->count, as);
+                compare(&tally,
+                        pack_as_due(paper_aaux_pack(trial->map, trial->frame, dif_channel, dif_sequence, pack), pack,
+                                    paper_as_number(dif_sequence), as),
+                        "(%u,%u) pack %u", dif_channel, dif_sequence, pack);
+            }
+    print_tally(&tally);
+}
+
+/* What a given sample is read back as. */
+static int32_t due_sample(const struct trial *trial, unsigned audio_channel, unsigned n)
+{
+    int32_t given = trial->sound[(audio_channel - 1) * trial->count + n];
+    return given == -32768 ? -32767 : given;
+}
+
+static void compare_sound_given(const struct trial *trial)
+{
+    struct tally tally = tally_of_trial(trial, "samples", "sound as given");
+    for (unsigned audio_channel = 1; audio_channel <= PAPER_AUDIO_CHANNELS; audio_channel++)
+        for (unsigned n = 0; n < trial->count; n++)
+            compare(&tally, paper_sample(trial->map, trial->frame, audio_channel, n) == due_sample(trial, audio_channel, n),
+                    "audio channel %u sample %u", audio_channel, n);
+    print_tally(&tally);
+}
+
+static void compare_tail(const struct trial *trial)
+{
+    struct tally tally = tally_of_trial(trial, "samples", "zeros from the count on");
+    for (unsigned audio_channel = 1; audio_channel <= PAPER_AUDIO_CHANNELS; audio_channel++)
+        for (unsigned n = trial->count; n < trial->map->system->samples; n++)
+            compare(&tally, paper_sample(trial->map, trial->frame, audio_channel, n) == 0, "audio channel %u sample %u",
+                    audio_channel, n);
+    print_tally(&tally);
+}
+
+static void compare_counts(const struct trial *trial)
+{
+    struct tally tally = tally_of_trial(trial, "audio channels", "count of the AS packs");
+    for (unsigned audio_channel = 1; audio_channel <= PAPER_AUDIO_CHANNELS; audio_channel++) {
+        int32_t samples[PAPER_MOST_SAMPLES];
+        struct dv100_audio said = dv100_read_audio(trial->system, trial->frame, trial->frame_bytes, audio_channel, samples,
+                                                   trial->map->system->samples);
+        unsigned read = paper_count(trial->map, trial->frame, audio_channel);
+        compare(&tally, read == trial->count && said.number == 0 && said.count == trial->count,
+                "audio channel %u: given %u, decoder %u, dv100_read_audio %u refusal %u", audio_channel, trial->count, read,
+                said.count, said.number);
+    }
+    print_tally(&tally);
+}
+
+static void compare_read_audio(const struct trial *trial)
+{
+    struct tally tally = tally_of_trial(trial, "positions", "dv100_read_audio");
+    for (unsigned audio_channel = 1; audio_channel <= PAPER_AUDIO_CHANNELS; audio_channel++) {
+        int32_t samples[PAPER_MOST_SAMPLES];
+        clear_list((uint32_t *)samples, PAPER_MOST_SAMPLES);
+        dv100_read_audio(trial->system, trial->frame, trial->frame_bytes, audio_channel, samples,
+                         trial->map->system->samples);
+        for (unsigned n = 0; n < trial->map->system->samples; n++) {
+            int32_t due = n < trial->count ? paper_sample(trial->map, trial->frame, audio_channel, n) : UNTOUCHED;
+            compare(&tally, samples[n] == due, "audio channel %u sample %u: decoder %d, library %d", audio_channel, n, due,
+                    samples[n]);
+        }
+    }
+    print_tally(&tally);
+}
+
+/* Every position of every audio channel of a frame in any state. */
+static void compare_salvage(const struct trial *trial, struct tally *tally)
+{
+    static int32_t samples[MOST_SOUND];
+    static uint32_t list[RECORD * MOST_BLOCKS], due[RECORD * MOST_BLOCKS];
+    unsigned positions = trial->map->system->samples;
+    clear_list(list, RECORD * MOST_BLOCKS);
+    struct dv100_survey said = dv100_salvage(trial->system, trial->frame, trial->frame_bytes, samples,
+                                             PAPER_AUDIO_CHANNELS * positions, list, RECORD * MOST_BLOCKS);
+    for (unsigned audio_channel = 1; audio_channel <= PAPER_AUDIO_CHANNELS; audio_channel++)
+        for (unsigned n = 0; n < positions; n++) {
+            int32_t sample = samples[(audio_channel - 1) * positions + n];
+            int32_t decoded = paper_salvaged_sample(trial->map, trial->frame, audio_channel, n);
+            compare(tally, sample == decoded, "audio channel %u sample %u: decoder %d, library %d", audio_channel, n,
+                    decoded, sample);
+        }
+    unsigned total = decoder_faults(trial, due);
+    require_list(tally, said, list, RECORD * MOST_BLOCKS, due, total);
+}
+
+static void compare_salvage_written(const struct trial *trial)
+{
+    struct tally tally = tally_of_trial(trial, "positions", "dv100_salvage");
+    compare_salvage(trial, &tally);
+    print_tally(&tally);
+}
+
+static void compare_picture_given(const struct trial *trial)
+{
+    struct tally tally = tally_of_trial(trial, "macroblocks", "picture as given");
+    for (unsigned number = 0; number < trial->map->system->macroblocks; number++)
+        compare(&tally,
+                memcmp(paper_macroblock(trial->map, trial->frame, number),
+                       trial->macroblocks + number * PAPER_PAYLOAD_BYTES, PAPER_PAYLOAD_BYTES) == 0,
+                "macroblock %u", number);
+    print_tally(&tally);
+}
+
+static void compare_picture_lent(const struct trial *trial)
+{
+    struct tally tally = tally_of_trial(trial, "macroblocks", "dv100_macroblock");
+    for (unsigned number = 0; number < trial->map->system->macroblocks; number++) {
+        struct dv100_part said = dv100_macroblock(trial->system, trial->frame, trial->frame_bytes, number);
+        unsigned start = (unsigned)(paper_macroblock(trial->map, trial->frame, number) - trial->frame);
+        compare(&tally, said.number == 0 && said.start == start && said.length == PAPER_PAYLOAD_BYTES,
+                "macroblock %u: decoder at %u, library at %u length %u refusal %u", number, start, said.start, said.length,
+                said.number);
+    }
+    print_tally(&tally);
+}
+
+/* Video DIF blocks that carry no macroblock have a payload of ones. */
+static void compare_empty_slots(const struct trial *trial)
+{
+    struct tally tally = tally_of_trial(trial, "blocks", "ones in video blocks without a macroblock");
+    for (unsigned h = 0; h < PAPER_DIF_CHANNELS; h++)
+        for (unsigned dsn = 0; dsn < trial->map->system->dif_sequences; dsn++)
+            for (unsigned dbn = 0; dbn < PAPER_VIDEO_BLOCKS; dbn++) {
+                if (trial->map->macroblock_of[h][dsn][dbn] != PAPER_NO_MACROBLOCK)
+                    continue;
+                unsigned start = paper_block_start(trial->map, (struct paper_id){PAPER_VIDEO, h, dsn, dbn});
+                compare(&tally, all_ones(trial->frame + start + PAPER_PAYLOAD, PAPER_PAYLOAD_BYTES), "V %u,%u of %u", dbn,
+                        h, dsn);
+            }
+    print_tally(&tally);
+}
+
+static void compare_time(const struct trial *trial)
+{
+    uint8_t time_code[4], binary_group[4];
+    unsigned time_codes = paper_read_time(trial->map, trial->frame, PAPER_TC, time_code);
+    unsigned binary_groups = paper_read_time(trial->map, trial->frame, PAPER_BG, binary_group);
+    struct dv100_time said = dv100_read_time(trial->system, trial->frame, trial->frame_bytes);
+    struct tally tally = tally_of_trial(trial, "packs", "time code and binary group");
+    require(&tally, time_codes > 0 && memcmp(time_code, trial->time_code, 4) == 0, "time code, decoder");
+    require(&tally, binary_groups > 0 && memcmp(binary_group, trial->binary_group, 4) == 0, "binary group, decoder");
+    require(&tally, said.number == 0 && memcmp(said.time_code, trial->time_code, 4) == 0, "time code, dv100_read_time");
+    require(&tally, said.number == 0 && memcmp(said.binary_group, trial->binary_group, 4) == 0,
+            "binary group, dv100_read_time");
+    tally.compared = time_codes + binary_groups;
+    print_tally(&tally);
+}
+
+static void compare_written(const struct trial *trial)
+{
+    compare_ids(trial);
+    compare_headers(trial);
+    compare_subcode(trial);
+    compare_vaux(trial);
+    compare_aaux(trial);
+    compare_counts(trial);
+    compare_sound_given(trial);
+    compare_tail(trial);
+    compare_read_audio(trial);
+    compare_salvage_written(trial);
+    compare_picture_given(trial);
+    compare_picture_lent(trial);
+    compare_empty_slots(trial);
+    compare_time(trial);
+}
+
+/* ---- 2. damaged frames */
+
+static unsigned blocks_in(const struct trial *trial)
+{
+    return (unsigned)(trial->frame_bytes / PAPER_BLOCK_BYTES);
+}
+
+static uint8_t *random_block(struct trial *trial)
+{
+    return trial->frame + below(blocks_in(trial)) * PAPER_BLOCK_BYTES;
+}
+
+static uint8_t *random_sequence(struct trial *trial)
+{
+    return trial->frame + below(PAPER_DIF_CHANNELS * trial->map->system->dif_sequences) * SEQUENCE_BYTES;
+}
+
+static void zero_blocks(struct trial *trial)
+{
+    for (unsigned times = 0; times < 200; times++)
+        memset(random_block(trial), 0, PAPER_BLOCK_BYTES);
+}
+
+static void fill_blocks_with_ones(struct trial *trial)
+{
+    for (unsigned times = 0; times < 200; times++)
+        memset(random_block(trial), 0xff, PAPER_BLOCK_BYTES);
+}
+
+static void copy_other_blocks(struct trial *trial)
+{
+    for (unsigned times = 0; times < 200; times++)
+        memmove(random_block(trial), random_block(trial), PAPER_BLOCK_BYTES);
+}
+
+static void flip_id_bits(struct trial *trial)
+{
+    for (unsigned bit = 0; bit < 24; bit++)
+        for (unsigned times = 0; times < 20; times++)
+            random_block(trial)[bit / 8] ^= (uint8_t)(1 << bit % 8);
+}
+
+static void randomize_ids(struct trial *trial)
+{
+    for (unsigned times = 0; times < 400; times++)
+        random_bytes(random_block(trial), PAPER_PAYLOAD);
+}
+
+static void randomize_payloads(struct trial *trial)
+{
+    for (unsigned times = 0; times < 400; times++)
+        random_bytes(random_block(trial) + PAPER_PAYLOAD, PAPER_PAYLOAD_BYTES);
+}
+
+static void lose_sequences(struct trial *trial)
+{
+    memset(random_sequence(trial), 0, SEQUENCE_BYTES);
+    memset(random_sequence(trial), 0xff, SEQUENCE_BYTES);
+    random_bytes(random_sequence(trial), SEQUENCE_BYTES);
+    memmove(random_sequence(trial), random_sequence(trial), SEQUENCE_BYTES);
+}
+
+/* DIF channel 2 over DIF channel 1. */
+static void copy_dif_channel(struct trial *trial)
+{
+    size_t bytes = trial->frame_bytes / PAPER_DIF_CHANNELS;
+    memcpy(trial->frame + bytes, trial->frame + 2 * bytes, bytes);
+}
+
+/* Everything behind some block one block late. */
+static void shift_by_a_block(struct trial *trial)
+{
+    size_t from = below(blocks_in(trial) / 2) * PAPER_BLOCK_BYTES;
+    memmove(trial->frame + from + PAPER_BLOCK_BYTES, trial->frame + from, trial->frame_bytes - from - PAPER_BLOCK_BYTES);
+}
+
+/* Of all blocks of zeros, only H0 of DIF channel 2, sequence 0 names its place. */
+static void zero_frame(struct trial *trial)
+{
+    memset(trial->frame, 0, trial->frame_bytes);
+}
+
+static void randomize_frame(struct trial *trial)
+{
+    random_bytes(trial->frame, trial->frame_bytes);
+}
+
+static const struct {
+    const char *name;
+    void (*damage)(struct trial *);
+} patterns[] = {
+    {"blocks zeroed", zero_blocks},
+    {"blocks of ones", fill_blocks_with_ones},
+    {"blocks copied over others", copy_other_blocks},
+    {"ID bits flipped", flip_id_bits},
+    {"random IDs", randomize_ids},
+    {"random payloads", randomize_payloads},
+    {"sequences lost", lose_sequences},
+    {"a DIF channel copied", copy_dif_channel},
+    {"shifted by a block", shift_by_a_block},
+    {"all zero", zero_frame},
+    {"all random", randomize_frame},
+};
+
+/* A list that holds every fault, one that holds half of them with three entries over, and the first fault by dv100_check. */
+static void compare_survey(const struct trial *trial, struct tally *tally)
+{
+    static uint32_t list[RECORD * MOST_BLOCKS], due[RECORD * MOST_BLOCKS];
+    unsigned total = decoder_faults(trial, due);
+    size_t lengths[2] = {RECORD * MOST_BLOCKS, RECORD * (size_t)(total / 2) + 3};
+    for (unsigned run = 0; run < 2; run++) {
+        clear_list(list, RECORD * MOST_BLOCKS);
+        struct dv100_survey said = dv100_survey(trial->system, trial->frame, trial->frame_bytes, list, lengths[run]);
+        require_list(tally, said, list, lengths[run], due, total);
+    }
+    if (total > 0)
+        require(tally, dv100_check(trial->system, trial->frame, trial->frame_bytes) == due[3], "dv100_check");
+    tally->compared = total;
+}
+
+/* The faults of one sequence, cut from those of the frame, which begin at due; how many. */
+static unsigned faults_of_sequence(const uint32_t *due, const uint32_t *end, unsigned dif_channel, unsigned dif_sequence)
+{
+    unsigned total = 0;
+    while (due + RECORD * total < end && due[RECORD * total] == dif_channel && due[RECORD * total + 1] == dif_sequence)
+        total++;
+    return total;
+}
+
+static void compare_survey_sequences(const struct trial *trial, struct tally *tally)
+{
+    static uint32_t due[RECORD * MOST_BLOCKS];
+    const uint32_t *next = due, *end = due + RECORD * decoder_faults(trial, due);
+    for (unsigned dif_channel = 0; dif_channel < PAPER_DIF_CHANNELS; dif_channel++)
+        for (unsigned dif_sequence = 0; dif_sequence < trial->map->system->dif_sequences; dif_sequence++) {
+            uint32_t list[RECORD * PAPER_PLACES];
+            unsigned total = faults_of_sequence(next, end, dif_channel, dif_sequence);
+            clear_list(list, RECORD * PAPER_PLACES);
+            struct dv100_survey said =
+                dv100_survey_sequence(trial->system, dif_channel, dif_sequence,
+                                      trial->frame + paper_place_start(trial->map->system, dif_channel, dif_sequence, 0),
+                                      SEQUENCE_BYTES, list, RECORD * PAPER_PLACES);
+            require_list(tally, said, list, RECORD * PAPER_PLACES, next, total);
+            next += RECORD * total;
+            tally->compared++;
+        }
+}
+
+static void compare_views(const struct trial *trial, struct tally *tally)
+{
+    for (unsigned dif_channel = 0; dif_channel < PAPER_DIF_CHANNELS; dif_channel++)
+        for (unsigned dif_sequence = 0; dif_sequence < trial->map->system->dif_sequences; dif_sequence++)
+            for (unsigned place = 0; place < PAPER_PLACES; place++) {
+                unsigned fault = paper_fault(trial->map, trial->frame, dif_channel, dif_sequence, place);
+                unsigned start = fault ? 0 : paper_place_start(trial->map->system, dif_channel, dif_sequence, place);
+                struct dv100_part said =
+                    dv100_view(trial->system, trial->frame, trial->frame_bytes, dif_channel, dif_sequence, place);
+                compare(tally,
+                        said.number == fault && said.start == start && said.length == (fault ? 0 : PAPER_BLOCK_BYTES),
+                        "(%u,%u,%u): decoder %u, library %u", dif_channel, dif_sequence, place, fault, said.number);
+            }
+}
+
+static void compare_damaged(const struct trial *trial, const char *pattern)
+{
+    static const struct {
+        const char *aspect, *things;
+        void (*compare)(const struct trial *, struct tally *);
+    } asked[] = {
+        {"dv100_survey", "faults", compare_survey},
+        {"dv100_survey_sequence", "sequences", compare_survey_sequences},
+        {"dv100_view", "blocks", compare_views},
+        {"dv100_salvage", "positions", compare_salvage},
+    };
+    for (unsigned at = 0; at < sizeof asked / sizeof asked[0]; at++) {
+        struct tally tally = tally_of(asked[at].things, "%s, %u samples, %s, %s", trial->map->system->name, trial->count,
+                                      pattern, asked[at].aspect);
+        asked[at].compare(trial, &tally);
+        print_tally(&tally);
+    }
+}
+
+/* Each pattern on a frame of its own. */
+static void damage_and_compare(struct trial *trial)
+{
+    for (unsigned at = 0; at < sizeof patterns / sizeof patterns[0]; at++) {
+        random_content(trial);
+        write_frame(trial);
+        patterns[at].damage(trial);
+        compare_damaged(trial, patterns[at].name);
+    }
+}
+
+/* ---- 3. the known places of document 01 */
+
+/* A line on what a paper says literally, and whether the decoder and the library say the same. */
+static void print_three_ways(int decoder, int library, const char *literal, ...)
+{
+    va_list values;
+    va_start(values, literal);
+    vprintf(literal, values);
+    va_end(values);
+    if (decoder && library) {
+        puts(": paper, decoder, library agree");
+        return;
+    }
+    lines_that_differ++;
+    printf(": DIFFERS%s%s\n", decoder ? "" : " in the decoder", library ? "" : " in the library");
+}
+
+/* What the library reads in the ID of the block that holds a byte of a frame. */
+static struct dv100_id library_id_at(const struct trial *trial, size_t byte)
+{
+    return dv100_read_id(trial->frame + byte - byte % PAPER_BLOCK_BYTES, 3);
+}
+
+static int library_names(struct dv100_id said, struct paper_id due)
+{
+    return said.number == 0 && said.section == due.section && said.channel == due.dif_channel &&
+           said.sequence == due.dseq && said.block == due.dbn;
+}
+
+static int same_id(struct paper_id one, struct paper_id other)
+{
+    return one.section == other.section && one.dif_channel == other.dif_channel && one.dseq == other.dseq &&
+           one.dbn == other.dbn;
+}
+
+/* The bytes of an ID, and the block that they name, at its place in a written frame. */
+static void compare_known_id(const struct trial *trial, struct paper_id named, unsigned place, const uint8_t id[3])
+{
+    uint8_t written[3];
+    paper_write_id(named, written);
+    struct dv100_part block =
+        dv100_view(trial->system, trial->frame, trial->frame_bytes, named.dif_channel, named.dseq, place);
+    print_three_ways(
+        memcmp(written, id, 3) == 0 && same_id(paper_read_id(id), named),
+        library_names(dv100_read_id(id, 3), named) && block.number == 0 && memcmp(trial->frame + block.start, id, 3) == 0,
+        "known %s, ID of DIF channel %u, sequence %u, section %u block %u: %02X %02X %02X", trial->map->system->name,
+        named.dif_channel, named.dseq, named.section, named.dbn, id[0], id[1], id[2]);
+}
+
+static void compare_known_ids(const struct trial *trial)
+{
+    compare_known_id(trial, (struct paper_id){PAPER_HEADER, 0, 0, 0}, 0, (const uint8_t[3]){0x1f, 0x07, 0x00});
+    compare_known_id(trial, (struct paper_id){PAPER_VIDEO, 3, 9, 134}, 149, (const uint8_t[3]){0x9f, 0x9b, 0x86});
+}
+
+static void compare_known_places(const struct trial *trial)
+{
+    static const struct {
+        unsigned place, section, dbn;
+        const char *block;
+    } known[] = {{6, PAPER_AUDIO, 0, "A0"}, {22, PAPER_AUDIO, 1, "A1"}, {149, PAPER_VIDEO, 134, "V134"}};
+    for (unsigned at = 0; at < sizeof known / sizeof known[0]; at++) {
+        struct paper_id due = {known[at].section, 0, 0, known[at].dbn};
+        struct dv100_part block = dv100_view(trial->system, trial->frame, trial->frame_bytes, 0, 0, known[at].place);
+        print_three_ways(same_id(trial->map->figure_3[known[at].place], due),
+                         block.number == 0 && library_names(library_id_at(trial, block.start), due),
+                         "known %s, place %u: %s", trial->map->system->name, known[at].place, known[at].block);
+    }
+}
+
+/* A sample of audio channel 1 and its (sequence, block, byte). */
+struct known_sample {
+    unsigned n, dif_sequence, audio_dif_block, byte;
+};
+
+/* Whether the two bytes that change when sample n is written otherwise are those. */
+static int library_writes_sample_at(struct trial *trial, struct known_sample known)
+{
+    static uint8_t before[MOST_FRAME];
+    size_t changed[2] = {0, 0};
+    unsigned changes = 0;
+    plain_content(trial);
+    write_frame(trial);
+    memcpy(before, trial->frame, trial->frame_bytes);
+    trial->sound[known.n] = 0x1234;
+    write_frame(trial);
+    for (size_t byte = 0; byte < trial->frame_bytes; byte++)
+        if (trial->frame[byte] != before[byte] && changes++ < 2)
+            changed[changes - 1] = byte;
+    return changes == 2 && changed[0] % PAPER_BLOCK_BYTES == known.byte && changed[1] == changed[0] + 1 &&
+           trial->frame[changed[0]] == 0x12 && trial->frame[changed[1]] == 0x34 &&
+           library_names(library_id_at(trial, changed[0]),
+                         (struct paper_id){PAPER_AUDIO, 0, known.dif_sequence, known.audio_dif_block});
+}
+
+/* Whether dv100_salvage answers a word put there at position n of audio channel 1, and zeros at all others. */
+static int library_reads_sample_at(struct trial *trial, struct known_sample known)
+{
+    static int32_t samples[MOST_SOUND];
+    unsigned positions = PAPER_AUDIO_CHANNELS * trial->map->system->samples;
+    struct paper_id block = {PAPER_AUDIO, 0, known.dif_sequence, known.audio_dif_block};
+    plain_content(trial);
+    write_frame(trial);
+    uint8_t *word = trial->frame + paper_block_start(trial->map, block) + known.byte;
+    word[0] = 0x12;
+    word[1] = 0x34;
+    dv100_salvage(trial->system, trial->frame, trial->frame_bytes, samples, positions, NULL, 0);
+    for (unsigned at = 0; at < positions; at++)
+        if (samples[at] != (at == known.n ? 0x1234 : 0))
+            return 0;
+    return 1;
+}
+
+static void compare_known_sample(struct trial *trial, struct known_sample known)
+{
+    struct paper_sample_place at = trial->map->sample[1][known.n];
+    int decoder = at.dif_channel == 0 && at.dif_sequence == known.dif_sequence &&
+                  at.audio_dif_block == known.audio_dif_block && at.byte == known.byte;
+    int library =
+        library_reads_sample_at(trial, known) && (known.n >= trial->count || library_writes_sample_at(trial, known));
+    print_three_ways(decoder, library, "known %s, audio channel 1 sample %u: (%u,%u,%u)", trial->map->system->name, known.n,
+                     known.dif_sequence, known.audio_dif_block, known.byte);
+}
+
+static void compare_known_samples(struct trial *trial)
+{
+    static const struct known_sample at_60_hz[] = {{0, 0, 0, 8},  {2, 4, 6, 8},   {15, 0, 1, 8},
+                                                   {44, 3, 8, 8}, {45, 0, 0, 10}, {1619, 3, 8, 78}};
+    static const struct known_sample at_50_hz[] = {{5, 5, 6, 8}, {1943, 3, 8, 78}};
+    if (trial->map->system->is_50_hz)
+        for (unsigned at = 0; at < 2; at++)
+            compare_known_sample(trial, at_50_hz[at]);
+    else
+        for (unsigned at = 0; at < 6; at++)
+            compare_known_sample(trial, at_60_hz[at]);
+}
+
+static void compare_known_macroblock(const struct trial *trial, struct paper_video_place v, unsigned number)
+{
+    struct dv100_part part = dv100_macroblock(trial->system, trial->frame, trial->frame_bytes, number);
+    print_three_ways(trial->map->macroblock_of[v.h][v.dsn][v.dbn] == (int)number,
+                     part.number == 0 && part.start % PAPER_BLOCK_BYTES == PAPER_PAYLOAD &&
+                         library_names(library_id_at(trial, part.start), (struct paper_id){PAPER_VIDEO, v.h, v.dsn, v.dbn}),
+                     "known %s, DIF channel %u, sequence %u, V%u: macroblock %u", trial->map->system->name, v.h, v.dsn,
+                     v.dbn, number);
+}
+
+static void compare_known_macroblocks(const struct trial *trial)
+{
+    if (trial->map->system->super_block_rows == 11) {
+        compare_known_macroblock(trial, (struct paper_video_place){1, 0, 0}, 2349);
+        compare_known_macroblock(trial, (struct paper_video_place){0, 11, 134}, 6074);
+    } else {
+        compare_known_macroblock(trial, (struct paper_video_place){0, 0, 0}, 324);
+        compare_known_macroblock(trial, (struct paper_video_place){1, 9, 134}, 2429);
+    }
+}
+
+/* The AS packs of audio channel 1 with 1,602 samples, in DIF channel 0, sequences 0 to 4. */
+static void compare_known_as(struct trial *trial)
+{
+    static const uint8_t known[PAPER_PACK_BYTES] = {0x50, 0x56, 0x10, 0xc3, 0xc0};
+    uint8_t due[PAPER_PACK_BYTES];
+    int library = 1;
+    set_up(trial, trial->system, 1602);
+    plain_content(trial);
+    write_frame(trial);
+    paper_as(trial->map->system, 1, 1602, due);
+    for (unsigned dif_sequence = 0; dif_sequence < 5; dif_sequence++)
+        library &= memcmp(paper_aaux_pack(trial->map, trial->frame, 0, dif_sequence, paper_as_number(dif_sequence)), known,
+                          PAPER_PACK_BYTES) == 0;
+    print_three_ways(memcmp(due, known, PAPER_PACK_BYTES) == 0, library,
+                     "known %s, AS of audio channel 1, 1602 samples: 50 56 10 C3 C0", trial->map->system->name);
+}
+
+static void compare_known(struct trial *trial)
+{
+    plain_content(trial);
+    write_frame(trial);
+    compare_known_ids(trial);
+    compare_known_places(trial);
+    compare_known_macroblocks(trial);
+    compare_known_samples(trial);
+    if (!trial->map->system->is_50_hz)
+        compare_known_as(trial);
+}
+
+/* ---- 4. printed rows and rules */
+
+/* The macroblock that the library has in each video DIF block of a system. */
+static int library_macroblock_of[PAPER_SYSTEMS][PAPER_DIF_CHANNELS][PAPER_MOST_SEQUENCES][PAPER_VIDEO_BLOCKS];
+
+static void ask_library_for_macroblocks(struct trial *trial)
+{
+    memset(library_macroblock_of[trial->system], 0xff, sizeof library_macroblock_of[trial->system]);
+    plain_content(trial);
+    write_frame(trial);
+    for (unsigned number = 0; number < trial->map->system->macroblocks; number++) {
+        struct dv100_part part = dv100_macroblock(trial->system, trial->frame, trial->frame_bytes, number);
+        struct dv100_id id = library_id_at(trial, part.start);
+        library_macroblock_of[trial->system][id.channel][id.sequence][id.block] = (int)number;
+    }
+}
+
+/* The number of a row's compressed macro block, or PAPER_NO_MACROBLOCK for a dash. */
+static int printed_number(unsigned system, const struct printed_row *row)
+{
+    if (row->cm.h == PRINTED_NONE)
+        return PAPER_NO_MACROBLOCK;
+    return (int)paper_macroblock_number(maps[system].system, row->cm);
+}
+
+static int decoder_has(unsigned system, const struct printed_row *row)
+{
+    return maps[system].macroblock_of[row->v.i][row->dif_sequence][row->v.dbn] == printed_number(system, row);
+}
+
+static int library_has(unsigned system, const struct printed_row *row)
+{
+    return library_macroblock_of[system][row->v.i][row->dif_sequence][row->v.dbn] == printed_number(system, row);
+}
+
+/* One line for each row, on the table's own system. */
+static void compare_table(const char *name, unsigned system, const struct printed_row *rows, unsigned length)
+{
+    for (const struct printed_row *row = rows; row < rows + length; row++) {
+        int decoder = row->v.i == row->dif_channel && decoder_has(system, row);
+        int library = library_has(system, row);
+        if (row->cm.h == PRINTED_NONE)
+            print_three_ways(decoder, library, "%s, DIF channel %u, sequence %u, V %u,%u: none", name, row->dif_channel,
+                             row->dif_sequence, row->v.dbn, row->v.i);
+        else
+            print_three_ways(decoder, library, "%s, DIF channel %u, sequence %u, V %u,%u: CM %u,%u,%u,%u", name,
+                             row->dif_channel, row->dif_sequence, row->v.dbn, row->v.i, row->cm.h, row->cm.i, row->cm.j,
+                             row->cm.k);
+    }
+}
+
+/* § 3.7.2.1 has one rule for the 60-Hz and 1 280 x 720/50/P systems. */
+static void compare_table_24_at_60_hz(unsigned system)
+{
+    struct tally tally = tally_of("rows", "Table 24, sequences 0 to 9, by the same rule in %s", maps[system].system->name);
+    for (const struct printed_row *row = table_24; row < table_24 + TABLE_24_ROWS; row++)
+        if (row->dif_sequence < 10)
+            compare(&tally, decoder_has(system, row) && library_has(system, row), "V %u,%u of %u", row->v.dbn, row->v.i,
+                    row->dif_sequence);
+    print_tally(&tally);
+}
+
+/* Whether V dbn,h and its four neighbours hold the video segment h, i, k. */
+static int holds_segment(const struct paper_map *map, struct paper_video_place v, unsigned i, unsigned k)
+{
+    for (unsigned m = 0; m < 5; m++) {
+        struct paper_cm cm = paper_segment(map->system, v.h, i, k, m);
+        if (map->macroblock_of[v.h][v.dsn][v.dbn + m] != (int)paper_macroblock_number(map->system, cm))
+            return 0;
+    }
+    return 1;
+}
+
+/* Whether they hold some video segment; of sequence 11 the edge unit's. */
+static int holds_some_segment(const struct paper_map *map, struct paper_video_place v)
+{
+    for (unsigned k = 0; k < 27; k++)
+        for (unsigned row = 0; row < map->system->super_block_rows; row++)
+            if (holds_segment(map, v, v.dsn == 11 ? 11 : row, k))
+                return 1;
+    return 0;
+}
+
+static void compare_segments(unsigned system)
+{
+    const struct paper_map *map = &maps[system];
+    struct tally tally = tally_of("segments", "%s, § 4.1.6 and § 3.7.2.1", map->system->name);
+    for (unsigned h = 0; h < PAPER_DIF_CHANNELS; h++)
+        for (unsigned dsn = 0; dsn < map->system->dif_sequences; dsn++)
+            for (unsigned dbn = 0; dbn < PAPER_VIDEO_BLOCKS; dbn += 5)
+                if (map->macroblock_of[h][dsn][dbn] != PAPER_NO_MACROBLOCK)
+                    compare(&tally, holds_some_segment(map, (struct paper_video_place){h, dsn, dbn}), "V %u,%u of %u", dbn,
+                            h, dsn);
+    require(&tally, map->misplaced == 0, "%u misplaced", map->misplaced);
+    print_tally(&tally);
+}
+
+/* Every ID that three bytes can be. */
+static void compare_all_ids(void)
+{
+    struct tally tally = tally_of("IDs", "dv100_read_id");
+    for (unsigned word = 0; word < 1u << 24; word++) {
+        uint8_t id[3] = {(uint8_t)(word >> 16), (uint8_t)(word >> 8), (uint8_t)word};
+        struct dv100_id said = dv100_read_id(id, 3);
+        struct paper_id due = paper_read_id(id);
+        int equal = due.section < PAPER_RESERVED_FROM
+                        ? library_names(said, due)
+                        : said.number == 11 && !(said.section | said.channel | said.sequence | said.block);
+        compare(&tally, equal, "%06X", word);
+    }
+    print_tally(&tally);
+}
+
+static void compare_printed(struct trial *trial)
+{
+    for (unsigned system = 0; system < PAPER_SYSTEMS; system++) {
+        set_up(trial, system, maps[system].system->counts[0]);
+        ask_library_for_macroblocks(trial);
+    }
+    compare_table("Table 23", 1, table_23, TABLE_23_ROWS);
+    compare_table("Table 24", 3, table_24, TABLE_24_ROWS);
+    compare_table_24_at_60_hz(0);
+    compare_table_24_at_60_hz(2);
+    for (unsigned system = 0; system < PAPER_SYSTEMS; system++)
+        compare_segments(system);
+    compare_all_ids();
+}
+
+/* ---- */
+
+static void compare_count(struct trial *trial, unsigned system, unsigned count)
+{
+    set_up(trial, system, count);
+    random_content(trial);
+    uint32_t refusal = write_frame(trial);
+    if (refusal != 0) {
+        lines_that_differ++;
+        printf("%s, %u samples, dv100_write: DIFFERS, refusal %u\n", maps[system].system->name, count, refusal);
+        return;
+    }
+    compare_written(trial);
+    damage_and_compare(trial);
+}
+
+int main(void)
+{
+    static struct trial trial;
+    for (unsigned system = 0; system < PAPER_SYSTEMS; system++)
+        paper_build(&maps[system], system);
+    for (unsigned system = 0; system < PAPER_SYSTEMS; system++)
+        for (unsigned which = 0; which < 2; which++)
+            if (maps[system].system->counts[which] > 0)
+                compare_count(&trial, system, maps[system].system->counts[which]);
+    for (unsigned system = 0; system < PAPER_SYSTEMS; system++) {
+        set_up(&trial, system, maps[system].system->counts[0]);
+        compare_known(&trial);
+    }
+    compare_printed(&trial);
+    return lines_that_differ > 0;
+}
