@@ -923,7 +923,7 @@ static int library_has(unsigned system, const struct printed_row *row)
     return library_macroblock_of[system][row->v.i][row->dif_sequence][row->v.dbn] == printed_number(system, row);
 }
 
-/* One line for each row, on the table's own system. */
+/* One line for each row, on a system of the table. */
 static void compare_table(const char *name, unsigned system, const struct printed_row *rows, unsigned length)
 {
     for (const struct printed_row *row = rows; row < rows + length; row++) {
@@ -937,17 +937,6 @@ static void compare_table(const char *name, unsigned system, const struct printe
                              row->dif_channel, row->dif_sequence, row->v.dbn, row->v.i, row->cm.h, row->cm.i, row->cm.j,
                              row->cm.k);
     }
-}
-
-/* § 3.7.2.1 has one rule for the 60-Hz and 1 280 x 720/50/P systems. */
-static void compare_table_24_at_60_hz(unsigned system)
-{
-    struct tally tally = tally_of("rows", "Table 24, sequences 0 to 9, by the same rule in %s", maps[system].system->name);
-    for (const struct printed_row *row = table_24; row < table_24 + TABLE_24_ROWS; row++)
-        if (row->dif_sequence < 10)
-            compare(&tally, decoder_has(system, row) && library_has(system, row), "V %u,%u of %u", row->v.dbn, row->v.i,
-                    row->dif_sequence);
-    print_tally(&tally);
 }
 
 /* Whether V dbn,h and its four neighbours hold the video segment h, i, k. */
@@ -1007,10 +996,10 @@ static void compare_printed(struct trial *trial)
         set_up(trial, system, maps[system].system->counts[0]);
         ask_library_for_macroblocks(trial);
     }
+    compare_table("Table 22 in 1080/60/I", 0, table_22, TABLE_22_ROWS);
+    compare_table("Table 22 in 720/60/P", 2, table_22, TABLE_22_ROWS);
     compare_table("Table 23", 1, table_23, TABLE_23_ROWS);
     compare_table("Table 24", 3, table_24, TABLE_24_ROWS);
-    compare_table_24_at_60_hz(0);
-    compare_table_24_at_60_hz(2);
     for (unsigned system = 0; system < PAPER_SYSTEMS; system++)
         compare_segments(system);
     compare_all_ids();
