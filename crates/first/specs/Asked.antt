@@ -1,24 +1,12 @@
--- What the private functions say, and what the first fault is.
-use mathlib.Core.Path.{_≡_}
-use mathlib.Core.Bool.{Bool, true}
-use mathlib.Core.List.{List, []}
-use Prim.Native.Nat.{ℕ, _*_, _/_, _%_}
+-- What the first fault is.
+use Prim.Native.Nat.{ℕ, _*_}
+use mathlib.Core.List.{List}
 use lib.Dec.{eqb}
-use lib.ListN.{length, take, drop}
+use lib.ListN.{length}
 use Rattle.base.specs.Pick.{pick}
 use Rattle.rules.specs.declared.System.{System}
-use Rattle.rules.specs.declared.Fault.{Fault}
 use Rattle.rules.specs.Systems.{sequencesOf}
-use Rattle.rules.specs.Faults.{sequenceFaults}
 use Rattle.rules.specs.Check.{faultIn}
-
--- those of sequence j of the stream, of n a DIF channel
-unfoldable pub streamFaults : List ℕ → ℕ → ℕ → List Fault
-streamFaults frame n j = sequenceFaults (take 12000 (drop (j * 12000) frame)) (j / n) (j % n)
-
--- where r says so there is no fault
-pub record Clean (r : Bool) (fs : List Fault) : Type 0 where
-  pub none : r ≡ true → fs ≡ []
 
 -- the first fault in stream order, or 0; 2 where the frame has not its length
 unfoldable pub firstOrLength : System → List ℕ → ℕ

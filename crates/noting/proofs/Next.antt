@@ -18,7 +18,7 @@ use Rattle.rules.specs.Survey.{outsideSequences}
 use Rattle.rules.proofs.Systems.{sequences-le}
 use Rattle.rules.proofs.Records.{noted-none}
 use Rattle.rules.proofs.Calls.{inside-means}
-use Rattle.noting.specs.Asked.{PartAsked, nextFaults}
+use Rattle.noting.specs.Asked.{PartAsked, Clean, nextFaults}
 
 module _ (y : System) (h q : ℕ) (part list : List ℕ) (t : ℕ) (o : Bool) (eo : o ≡ outsideSequences (Known y) h q) where
   none-next : (not (outsideSequences (Known y) h q) && (eqb (length part) 12000 && ltb t 8000)) ≡ false → Noted list t (nextFaults y h q part t) list t
@@ -43,6 +43,9 @@ module _ (y : System) (h q : ℕ) (part list : List ℕ) (t : ℕ) (o : Bool) (e
       unfolding nextFaults
       next-surveyed l list′ r n = rw (inside, eq-eqb _ _ e, lt-ltb t 8000 l) (rw (pick-true (sequenceFaults part h q) [] refl) n)
 
+      pub next-clean : t < 8000 → (r : Bool) → Clean r (sequenceFaults part h q) → r ≡ true → Noted list t (nextFaults y h q part t) list t
+      next-clean l r c s = next-surveyed l list t (rw (c .none s) (noted-none list t))
+
 -- a sequence of the system, after few faults
 pub next-inside : (y : System) (h q : ℕ) (part : List ℕ) (t : ℕ) → h < 4 → q < sequencesOf y → length part ≡ 12000 → t < 8000 → nextFaults y h q part t ≡ sequenceFaults part h q
 unfolding nextFaults
@@ -53,3 +56,6 @@ pub next-asked : (y : System) (h q : ℕ) (part : List ℕ) (t : ℕ) (o : Bool)
 next-asked y h q part t o eo f e l =
     let i = inside-means y h q (sym eo ∙ f) in
     record { whole = e; sequence = record { channel = i .0; sequence = omega (arith, i .1, sequences-le y) }; few = l }
+
+pub clean-asked : (y : System) (h q : ℕ) (part : List ℕ) (o : Bool) → o ≡ outsideSequences (Known y) h q → o ≡ false → length part ≡ 12000 → PartAsked part h q 0
+clean-asked y h q part o eo f e = next-asked y h q part 0 o eo f e (omega arith)

@@ -1,6 +1,6 @@
 -- What the private functions ask, and what the public ones say.
 use mathlib.Core.Path.{_≡_}
-use mathlib.Core.Bool.{not, _&&_}
+use mathlib.Core.Bool.{Bool, true, not, _&&_}
 use mathlib.Core.List.{List, []}
 use Prim.Native.Nat.{ℕ, _/_, _≤_, _<_, min}
 use lib.Dec.{eqb, ltb}
@@ -32,6 +32,10 @@ pub record PartAsked (part : List ℕ) (h q t : ℕ) : Type 0 where
   pub whole : length part ≡ 12000
   pub sequence : InSequence h q
   pub few : t < 8000
+
+-- where r says so there is no fault
+pub record Clean (r : Bool) (fs : List Fault) : Type 0 where
+  pub none : r ≡ true → fs ≡ []
 
 -- what a survey that went through answers: its total t, of a list of so many numbers
 abbrev pub tallied : ℕ → ℕ → Survey

@@ -1,4 +1,5 @@
 // The faults of one sequence, noted in a lent list behind those that came before.
+mod clean;
 mod list;
 mod sequence;
 

@@ -2,6 +2,7 @@
 ghost use Rattle.rules.specs.Faults.{blockFaults, sequenceFaults};
 ghost use Rattle.rules.specs.Noting.{Noted};
 ghost use Rattle.noting.specs.Asked.{BlockAsked, PartAsked, nextFaults};
+use crate::clean;
 use crate::list;
 use layout::BLOCK;
 use layout::PLACES;
@@ -71,7 +72,7 @@ pub(crate) fn survey_part(part: &[u8], h: u32, q: u32, list: &mut [u32], t: u32)
     total
 }
 
-// The survey of one sequence where t faults came before. Nothing is surveyed where the sequence is none of the system's, or
+// The survey of one sequence where t faults came before: block by block only where some block is not clean. Nothing is surveyed where the sequence is none of the system's, or
 // after 8,000 faults.
 pub fn survey_next(y: System, h: u32, q: u32, part: &[u8], list: &mut [u32], t: u32) -> u32
     ensures { λ r. ⌜ Noted (now (list .entry)) t (nextFaults y h q (now (part .entry)) t) (now (list .exit)) r ⌝ }
@@ -83,6 +84,9 @@ pub fn survey_next(y: System, h: u32, q: u32, part: &[u8], list: &mut [u32], t: 
         return t;
     }
     if 8000 <= t {
+        return t;
+    }
+    if clean::clean_part(part, h, q) {
         return t;
     }
     survey_part(part, h, q, list, t)

@@ -1,6 +1,6 @@
 -- `first::first_fault` meets its contract: one lemma for each way out. Assumes nothing.
 use borrow.Author.Needs.{needs}
-use Rattle.first.proofs.Clear.{first-wrong-length, first-none, first-listed}
+use Rattle.first.proofs.Ways.{first-wrong-length, first-listed}
 use Rattle.first.proofs.first_fault.Statement.{statement}
 use Rattle.first.proofs.first_fault.Tie as tie
 
@@ -9,12 +9,6 @@ frame-bytes-requires c κs = search needs
 
 returns : tie.Need-returns
 returns c = search (first-wrong-length, needs)
-
-clean-frame-requires : tie.Need-clean-frame-requires
-clean-frame-requires c κs = search needs
-
-returns-2 : tie.Need-returns-2
-returns-2 c = search (first-none, needs)
 
 slice-aggregate-survey-known : tie.Need-slice-aggregate-survey-known
 slice-aggregate-survey-known c = search needs
@@ -25,8 +19,8 @@ survey-known-requires c κs = search needs
 array-read-result : tie.Need-array-read-result
 array-read-result c = search needs
 
-returns-3 : tie.Need-returns-3
-returns-3 c = search (first-listed, needs)
+returns-2 : tie.Need-returns-2
+returns-2 c = search (first-listed, needs)
 
 pub first-fault-spec : {M : Type 1} → statement M
 first-fault-spec =
@@ -34,9 +28,7 @@ first-fault-spec =
     (tie.spec
     frame-bytes-requires
     returns
-    clean-frame-requires
-    returns-2
     slice-aggregate-survey-known
     survey-known-requires
     array-read-result
-    returns-3)
+    returns-2)

@@ -1,13 +1,13 @@
--- `first::clean_part` meets its contract: where the flag holds, no place below p has a fault. Assumes nothing.
+-- `noting::clean::clean_part` meets its contract: where the flag holds, no place below p has a fault. Assumes nothing.
 use Prim.Native.Nat.{_-_, _≤_}
 use native.Mathlib.Omega.{arith}
 use borrow.Author.Needs.{needs}
 use Rattle.base.specs.Run.{run}
 use Rattle.rules.specs.Faults.{placeFaults}
-use Rattle.first.proofs.Clear.{clean-start, bits-fit, clean-place, clean-places}
-use Rattle.first.specs.Asked.{Clean}
-use Rattle.first.proofs.clean_part.Statement.{statement}
-use Rattle.first.proofs.clean_part.Tie as tie
+use Rattle.noting.proofs.Clear.{clean-start, bits-fit, clean-place, clean-places}
+use Rattle.noting.specs.Asked.{Clean}
+use Rattle.noting.proofs.clean.clean_part.Statement.{statement}
+use Rattle.noting.proofs.clean.clean_part.Tie as tie
 
 abbrev Inv-loop : tie.InvT-loop
 Inv-loop part h q table key good₀ p₀ good p = Clean good (run (placeFaults part h q) p) × (p ≤ 150)
