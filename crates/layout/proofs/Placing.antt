@@ -1,6 +1,6 @@
--- The ways out of the place rule: k is a block's number, n what the code counts of its section's blocks. Assumes nothing.
+-- The ways out of the place rule and back. Assumes nothing.
 use mathlib.Core.Path.{_≡_, refl, sym, ap, _∙_}
-use Prim.Native.Nat.{ℕ, _+_, _*_, _/_, _%_, _≤_, _<_}
+use Prim.Native.Nat.{ℕ, _+_, _*_, _-_, _/_, _%_, _≤_, _<_}
 use native.Mathlib.Omega.{arith}
 use borrow.Author.Tests.{lt-ltb, le-ltb}
 use Rattle.base.proofs.Cases.{by-lt}
@@ -11,10 +11,38 @@ use Rattle.rules.specs.declared.BlockNumber.{BlockNumber}
 use Rattle.rules.specs.declared.Place.{Place}
 use Rattle.rules.specs.declared.Entry.{Entry}
 use Rattle.rules.specs.declared.Found.the-variants.{At, Nowhere}
-use Rattle.rules.specs.Places.{blocksOf, place, placeIn, placeFor, placeOf}
-use Rattle.rules.proofs.Places.{place-for, place-for-past, place-in-below}
+use Rattle.rules.specs.Places.{blocksOf, place, block, entryAt, placeIn, placeFor, placeOf}
+use Rattle.rules.proofs.Places.{entry-past, entry-place-in, place-for, place-for-past, place-in-below}
 
--- ---- place_in
+-- ---- entry_at
+
+module _ (p : Place) (r : Entry) where
+  pub entry-none : 150 ≤ p .0 → r ≡ block Header 0 → r ≡ entryAt p
+  entry-none h e = e ∙ sym (entry-past (p .0) h)
+
+  -- what stands where the rule puts it
+  ruled : (s : Section) (k : ℕ) → k < blocksOf s → p .0 ≡ placeIn s k → r ≡ block s k → r ≡ entryAt p
+  ruled s k l e er = er ∙ sym (ap (λ (j : ℕ). entryAt (place j)) e ∙ entry-place-in s k l)
+
+  pub entry-header : p .0 < 1 → r ≡ block Header (p .0) → r ≡ entryAt p
+  entry-header h = ruled Header (p .0) h refl
+
+  module _ (above : 1 ≤ p .0) where
+    pub entry-subcode : p .0 < 3 → r ≡ block Subcode (p .0 - 1) → r ≡ entryAt p
+    entry-subcode h = ruled Subcode (p .0 - 1) (omega arith) (omega arith)
+
+  module _ (above : 3 ≤ p .0) where
+    pub entry-vaux : p .0 < 6 → r ≡ block Vaux (p .0 - 3) → r ≡ entryAt p
+    entry-vaux h = ruled Vaux (p .0 - 3) (omega arith) (omega arith)
+
+  module _ (above : 6 ≤ p .0) (below : p .0 < 150) where
+    pub entry-audio : (p .0 - 6) % 16 ≡ 0 → r ≡ block Audio ((p .0 - 6) / 16) → r ≡ entryAt p
+    entry-audio z = ruled Audio ((p .0 - 6) / 16) (omega arith) (omega arith)
+
+    pub entry-video : ((p .0 - 6) % 16 ≡ 0 → ⊥) → r ≡ block Video (15 * ((p .0 - 6) / 16) + (p .0 - 6) % 16 - 1) → r ≡ entryAt p
+    entry-video d = ruled Video (15 * ((p .0 - 6) / 16) + (p .0 - 6) % 16 - 1) (omega arith) (omega arith)
+
+-- ---- place_in: k is a block's number, n what the code counts of its section's blocks
 
 module _ (s : Section) (k : BlockNumber) (n : ℕ) (en : n ≡ blocksOf s) where
   pub past-way : n ≤ k .0 → place 150 ≡ placeFor s k

@@ -1,4 +1,4 @@
--- The ways out of the ID reader, and what is read off the printed table. Assumes nothing.
+-- The ways out of the ID reader. Assumes nothing.
 use mathlib.Core.Path.{_≡_, refl, sym, ap, _∙_}
 use mathlib.Core.List.{List}
 use Prim.Native.Nat.{ℕ, _/_, _%_, _≤_, _<_}
@@ -7,15 +7,11 @@ use lib.ListN.{length, getD, take}
 use lib.Seq.{take-all}
 use Rattle.base.specs.Bytes.{Byte}
 use Rattle.rules.specs.declared.Section.{Section}
-use Rattle.rules.specs.declared.Place.{Place}
-use Rattle.rules.specs.declared.Entry.{Entry}
 use Rattle.rules.specs.declared.IdAnswer.{IdAnswer}
 use Rattle.rules.specs.declared.IdAnswer.the-variants.{Named, Reserved, WrongLength}
-use Rattle.rules.specs.Places.{sectionOf, entryAt}
+use Rattle.rules.specs.Places.{sectionOf}
 use Rattle.rules.specs.Ids.{channelOf, namedBy, idAnswer, blockAnswer}
-use Rattle.rules.specs.Judging.{printedPlaces, entryOf}
 use Rattle.rules.specs.ReadId.{IdRead}
-use Rattle.rules.proofs.Places.{printed-at, entry-printed}
 use Rattle.rules.proofs.Calls.{read-id-0, read-id-4, read-id-11, id-read}
 
 pub wrong-length : (id : List ℕ) → (length id ≡ 3 → ⊥) → IdRead id WrongLength
@@ -34,8 +30,3 @@ module _ (id : List ℕ) (b0 : ℕ) (e : length id ≡ 3) (byte0 : Byte (getD id
 -- a block of fewer than three bytes is all of its ID
 pub short-block : (block : List ℕ) (r : IdAnswer) → length block < 3 → IdRead block r → r ≡ blockAnswer block
 short-block block r l a = a .answer ∙ ap idAnswer (sym (take-all 3 block (omega arith)))
-
--- ---- the printed table
-
-pub entry-read : (p : Place) (table : List ℕ) (e : Entry) → table ≡ printedPlaces → p .0 < 150 → e ≡ entryOf (getD table (p .0) 0) → e ≡ entryAt p
-entry-read p table e et h ee = ee ∙ rw (et, printed-at (p .0) h) (entry-printed (entryAt p))

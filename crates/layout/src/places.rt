@@ -90,19 +90,40 @@ pub fn entry_of(number: u32) -> Entry
     }
 }
 
-// What stands at a place. Past the 150 there is none, and H0 stands in.
+// A block of a section.
+fn block(section: Section, number: u32) -> Entry
+    ensures { λ r. ⌜ r ≡ record { section = section; number = record { 0 = number } } ⌝ }
+{
+    Entry {
+        section: section,
+        number: BlockNumber(number),
+    }
+}
+
+// What stands at a place, by the rule, since of the table by value one entry costs as much as all. Past the 150 there is none, and
+// H0 stands in.
 pub fn entry_at(p: Place) -> Entry
     ensures { λ r. ⌜ r ≡ entryAt p ⌝ }
 {
     let at = p.0;
     if PLACES <= at {
-        return Entry {
-            section: Section::Header,
-            number: BlockNumber(0),
-        };
+        return block(Section::Header, 0);
     }
-    let table = printed_places();
-    entry_of(table[at as usize])
+    if at < 1 {
+        return block(Section::Header, at);
+    }
+    if at < 3 {
+        return block(Section::Subcode, at - 1);
+    }
+    if at < 6 {
+        return block(Section::Vaux, at - 3);
+    }
+    let a = (at - 6) / 16;
+    let i = (at - 6) % 16;
+    if i == 0 {
+        return block(Section::Audio, a);
+    }
+    block(Section::Video, 15 * a + i - 1)
 }
 
 // How many blocks a section has in a sequence.
