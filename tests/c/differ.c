@@ -953,21 +953,23 @@ static void try_view(const struct scene *scene)
     unchanged(FRAME);
 }
 
-static void try_check(const struct scene *scene)
+static void ask_check(const struct scene *scene)
 {
     size_t length = elements(FRAME);
     ask("check, system %" PRIu32 ", frame %zu", scene->system, length);
     uint32_t library = dv100_check(scene->system, lend(FRAME, LIBRARY), length);
     uint32_t plain = plain_check(scene->system, lend(FRAME, PLAIN), length);
     answered(CHECK, only_number, &library, &plain, 1);
-    unchanged(FRAME);
 }
 
-static void try_read_audio(const struct scene *scene)
+/* The audio channel that has its sound in the sequence. */
+static uint32_t audio_channel_of(const struct scene *scene)
 {
-    uint32_t damaged = 2 * scene->channel + (in_first_half(scene, scene->sequence) ? 1 : 2);
-    uint32_t audio_channel = percent(60) ? damaged : percent(20) ? 9 * below(2) : 1 + number_below(8);
-    set_length(SAMPLES, length_about(facts[scene->made].positions));
+    return 2 * scene->channel + (in_first_half(scene, scene->sequence) ? 1 : 2);
+}
+
+static void ask_read_audio(const struct scene *scene, uint32_t audio_channel)
+{
     size_t length = elements(FRAME), samples = elements(SAMPLES);
     ask("read_audio, system %" PRIu32 ", frame %zu, audio channel %" PRIu32 ", samples %zu", scene->system, length, audio_channel,
         samples);
@@ -977,8 +979,14 @@ static void try_read_audio(const struct scene *scene)
         plain_read_audio(scene->system, lend(FRAME, PLAIN), length, audio_channel, lend(SAMPLES, PLAIN), samples);
     uint32_t said[] = {library.number, library.count}, wanted[] = {plain.number, plain.count};
     bool success = answered(READ_AUDIO, audio_fields, said, wanted, COUNT(said));
-    unchanged(FRAME);
     changed(SAMPLES, success);
+}
+
+static void try_read_audio(const struct scene *scene)
+{
+    set_length(SAMPLES, length_about(facts[scene->made].positions));
+    ask_read_audio(scene, percent(60) ? audio_channel_of(scene) : percent(20) ? 9 * below(2) : 1 + number_below(8));
+    unchanged(FRAME);
 }
 
 static void ask_macroblock(const struct scene *scene, uint32_t macroblock)
@@ -996,7 +1004,7 @@ static void try_macroblock(const struct scene *scene)
     unchanged(FRAME);
 }
 
-static void try_read_time(const struct scene *scene)
+static void ask_read_time(const struct scene *scene)
 {
     size_t length = elements(FRAME);
     ask("read_time, system %" PRIu32 ", frame %zu", scene->system, length);
@@ -1010,7 +1018,6 @@ static void try_read_time(const struct scene *scene)
         wanted[5 + byte] = plain.binary_group[byte];
     }
     answered(READ_TIME, time_fields, said, wanted, COUNT(said));
-    unchanged(FRAME);
 }
 
 static void try_salvage(const struct scene *scene)
@@ -1040,10 +1047,8 @@ static uint32_t write_by(writer *write, int side, uint32_t system, uint32_t coun
                  elements(TARGET));
 }
 
-static void try_write(const struct scene *scene)
+static void ask_write(const struct scene *scene, uint32_t count, uint8_t *keep)
 {
-    uint32_t like = percent(95) && scene->system < SYSTEMS ? scene->system : scene->made;
-    uint32_t count = make_lent(like), kept = below(KEPT);
     ask("write, system %" PRIu32 ", count %" PRIu32 ", sound %zu, macroblocks %zu, time code %zu, group %zu, frame %zu",
         scene->system, count, elements(SOUND), elements(MACROBLOCKS), elements(TIME_CODE), elements(BINARY_GROUP),
         elements(TARGET));
@@ -1052,9 +1057,16 @@ static void try_write(const struct scene *scene)
     bool success = answered(WRITE, only_number, &library, &plain, 1);
     for (enum lent lent = SOUND; lent <= BINARY_GROUP; lent++)
         unchanged(lent);
-    if (success && percent(50))
-        memcpy(pool[scene->system][kept], lend(TARGET, PLAIN), frame_size(scene->system));
+    if (success && keep)
+        memcpy(keep, lend(TARGET, PLAIN), frame_size(scene->system));
     changed(TARGET, success);
+}
+
+static void try_write(const struct scene *scene)
+{
+    uint32_t like = percent(95) && scene->system < SYSTEMS ? scene->system : scene->made;
+    uint32_t count = make_lent(like), kept = below(KEPT);
+    ask_write(scene, count, percent(50) ? pool[like][kept] : NULL);
 }
 
 /* ---- Cases */
@@ -1073,23 +1085,39 @@ static void run_case(void)
     try_survey_sequence(&scene);
     try_survey_sequence(&scene);
     try_survey(&scene);
-    try_check(&scene);
+    ask_check(&scene);
+    unchanged(FRAME);
     try_read_audio(&scene);
     try_read_audio(&scene);
     try_macroblock(&scene);
-    try_read_time(&scene);
+    ask_read_time(&scene);
+    unchanged(FRAME);
     try_salvage(&scene);
     try_write(&scene);
 }
 
-/* A frame that the reads take, for the sweeps. */
-static void set_clean(struct scene *scene, uint32_t system)
+/* Makes something to write that is taken, and puts the frame where it is kept. Answers the count. */
+static uint32_t write_one(uint32_t system, uint8_t *kept)
 {
-    *scene = (struct scene){system, system, 0, 0, 0};
-    set_length(FRAME, frame_size(system));
-    memcpy(content(FRAME), pool[system][0], frame_size(system));
-    share(FRAME, frame_size(system));
+    uint32_t count;
+    do
+        count = make_lent(system);
+    while (write_by(plain_write, PLAIN, system, count) != 0);
+    memcpy(kept, lend(TARGET, PLAIN), frame_size(system));
+    copy_to_sides(&buffers[TARGET], 0, whole(&buffers[TARGET]));
+    return count;
 }
+
+static void set_up_pool(void)
+{
+    for (uint32_t system = 0; system < SYSTEMS; system++)
+        for (uint32_t kept = 0; kept < KEPT; kept++) {
+            pool[system][kept] = allocate(LONGEST);
+            write_one(system, pool[system][kept]);
+        }
+}
+
+/* ---- Sweeps: what can be tried in full */
 
 /* Every first and second byte of an ID. */
 static void sweep_ids(void)
@@ -1103,33 +1131,100 @@ static void sweep_ids(void)
     }
 }
 
-/* Every block and every macroblock of a clean frame. */
-static void sweep_frame(uint32_t system)
+/* Every block and every macroblock. */
+static void sweep_parts(const struct scene *scene)
 {
-    struct scene scene;
-    set_clean(&scene, system);
     for (uint32_t channel = 0; channel < DIF_CHANNELS; channel++)
-        for (uint32_t sequence = 0; sequence < facts[system].sequences; sequence++)
+        for (uint32_t sequence = 0; sequence < facts[scene->made].sequences; sequence++)
             for (uint32_t place = 0; place < PLACES; place++)
-                ask_view(&scene, channel, sequence, place);
-    for (uint32_t macroblock = 0; macroblock < facts[system].macroblocks; macroblock++)
-        ask_macroblock(&scene, macroblock);
-    unchanged(FRAME);
+                ask_view(scene, channel, sequence, place);
+    for (uint32_t macroblock = 0; macroblock < facts[scene->made].macroblocks; macroblock++)
+        ask_macroblock(scene, macroblock);
 }
 
-static void set_up_pool(void)
+static void ask_own_audio(const struct scene *scene)
 {
-    for (uint32_t system = 0; system < SYSTEMS; system++)
-        for (uint32_t kept = 0; kept < KEPT; kept++) {
-            uint32_t count = 0;
-            pool[system][kept] = allocate(LONGEST);
-            do
-                count = make_lent(system);
-            while (write_by(plain_write, PLAIN, system, count) != 0);
-            memcpy(pool[system][kept], lend(TARGET, PLAIN), frame_size(system));
-            copy_to_sides(&buffers[TARGET], 0, whole(&buffers[TARGET]));
-        }
+    ask_read_audio(scene, audio_channel_of(scene));
 }
+
+static void ask_strict_reads(const struct scene *scene)
+{
+    ask_check(scene);
+    ask_own_audio(scene);
+    ask_macroblock(scene, scene->sequence);
+    ask_read_time(scene);
+}
+
+typedef void question(const struct scene *scene);
+
+/* Puts every value in each of some bytes of the frame, or flips each of their bits, and asks. */
+static void sweep_bytes(const struct scene *scene, uint8_t *bytes, size_t count, bool values, question *question)
+{
+    for (uint8_t *byte = bytes; byte < bytes + count; byte++) {
+        uint8_t held = *byte;
+        for (uint32_t turn = 0; turn < (values ? 256 : 9); turn++) {
+            /* after the eight bits, and after the values, the byte is as it was */
+            *byte = values ? (uint8_t)(held + 1 + turn) : (uint8_t)(held ^ (1u << turn & 0xFF));
+            copy_to_sides(&buffers[FRAME], (size_t)(byte - buffers[FRAME].before), 1);
+            question(scene);
+        }
+    }
+}
+
+/* What a sequence says of its frame: header, VS, AS, time code. */
+static void sweep_sequence(const struct scene *scene)
+{
+    uint8_t *bytes = sequence_of(scene);
+    sweep_bytes(scene, bytes, 8, false, ask_strict_reads);
+    sweep_bytes(scene, vs_of(scene), 5, true, ask_check);
+    sweep_bytes(scene, as_of(scene), 5, true, ask_own_audio);
+    for (uint32_t ssyb = 0; ssyb < 12; ssyb++)
+        sweep_bytes(scene, pack_of(bytes, ssyb) - 3, 8, false, ask_read_time);
+    sweep_bytes(scene, pack_of(bytes, 3), 5, true, ask_read_time);
+}
+
+/* Every value of each time code byte to be written. */
+static void sweep_written_time(const struct scene *scene)
+{
+    uint32_t count = write_one(scene->made, pool[scene->made][0]);
+    for (uint32_t byte = 0; byte < 4; byte++) {
+        make_time_code(content(TIME_CODE), at_50_hz(scene->made));
+        for (uint32_t value = 0; value < 256; value++) {
+            content(TIME_CODE)[byte] = (uint8_t)value;
+            share(TIME_CODE, 4);
+            ask_write(scene, count, NULL);
+        }
+    }
+}
+
+static void sweep_frame(uint32_t system)
+{
+    uint32_t sequences = facts[system].sequences;
+    struct scene scenes[] = { /* even and odd sequences of both halves */
+        {system, system, 0, 0, 0},
+        {system, system, 1, 1, 0},
+        {system, system, 2, sequences - 2, 0},
+        {system, system, 3, sequences - 1, 0},
+    };
+    set_length(FRAME, frame_size(system));
+    memcpy(content(FRAME), pool[system][0], frame_size(system));
+    share(FRAME, frame_size(system));
+    set_length(SAMPLES, facts[system].positions);
+    sweep_parts(&scenes[0]);
+    for (size_t scene = 0; scene < COUNT(scenes); scene++)
+        sweep_sequence(&scenes[scene]);
+    unchanged(FRAME);
+    sweep_written_time(&scenes[0]);
+}
+
+static void sweep(void)
+{
+    sweep_ids();
+    for (uint32_t system = 0; system < SYSTEMS; system++)
+        sweep_frame(system);
+}
+
+/* ---- The report */
 
 /* How often each call answered each number, '.' where the paper has none; answers how many that it has were never met. */
 static uint32_t print_table(void)
@@ -1172,15 +1267,6 @@ static const char *grouped(uint64_t value)
     return at;
 }
 
-static void sweep(void)
-{
-    calls = case_number = 0;
-    sweep_ids();
-    for (uint32_t system = 0; system < SYSTEMS; system++)
-        sweep_frame(system);
-    printf("sweep of IDs, blocks and macroblocks: %s calls\n", grouped(calls));
-}
-
 int main(int argc, char **argv)
 {
     uint32_t cases = argc > 1 ? (uint32_t)strtoul(argv[1], NULL, 10) : 20000;
@@ -1191,7 +1277,9 @@ int main(int argc, char **argv)
         run_case();
     uint32_t never = print_table();
     uint64_t of_cases = calls;
+    case_number = 0;
     sweep();
+    printf("sweeps, as case 0: %s calls\n", grouped(calls - of_cases));
     if (never > 0)
         printf("differential test: %" PRIu32 " numbers of the table were never met\n", never);
     printf("differential test: %" PRIu32 " cases, %s calls, ", cases, grouped(of_cases));
