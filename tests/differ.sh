@@ -1,0 +1,11 @@
+#!/bin/bash
+# differ.sh [CASES [SEED]]: the library's ten calls beside tests/c/plain.c, which is written in C from the paper alone, on written,
+# damaged and rubbish frames. A difference fails, and a refusal number of a call that no case met.
+set -u
+. "$(dirname "$0")/c/env.sh"
+work=$(mktemp -d)
+trap 'rm -rf "$work"' EXIT
+build_library || exit 1
+$CC -std=c11 -O2 -g -Wall -Wextra -Werror -I "$top/include" "$top/tests/c/differ.c" "$top/tests/c/plain.c" "$LIBRARY" \
+    -o "$work/differ" || exit 1
+$RUN "$work/differ" "${1:-20000}" ${2:+"$2"}
