@@ -1,5 +1,5 @@
 #!/bin/bash
-# differ.sh [CASES [SEED]]: the library's ten calls beside tests/c/plain.c, which is written in C from the paper alone, on written,
+# differ.sh [CASES [SEED]]: the library's ten calls beside tests/c/plain.c, an implementation of its own in C, on written,
 # damaged and rubbish frames. A difference fails, and a refusal number of a call that no case met.
 set -u
 . "$(dirname "$0")/c/env.sh"

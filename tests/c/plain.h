@@ -1,4 +1,4 @@
-/* The ten calls of dv100.h in plain C, with its structs: written from the paper alone, to compare the library with. */
+/* The ten calls of dv100.h in plain C, with its structs: an implementation of its own, by document 01, to compare the library with. */
 #ifndef PLAIN_H
 #define PLAIN_H
 

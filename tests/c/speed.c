@@ -22,9 +22,9 @@ struct measured {
 
 static const struct measured systems[] = {{0, 480000, 1620, 5400, 1602}, {1, 576000, 1944, 6075, 1920}};
 
-/* What the calls are lent. The frame is one that was written; the damaged one has some blocks zeroed. */
+/* What the calls are lent. The frame is one that was written; the damaged one has some blocks zeroed, the blank one all. */
 static const struct measured *own;
-static uint8_t frame[LONGEST], damaged[LONGEST], target[LONGEST], macroblocks[77 * 6075];
+static uint8_t frame[LONGEST], damaged[LONGEST], blank[LONGEST], target[LONGEST], macroblocks[77 * 6075];
 static int32_t sound[8 * 1920], samples[8 * 1944];
 static uint32_t list[4 * ROOM];
 static const uint8_t binary_group[4] = {1, 2, 3, 4}, time_code[4] = {0x52, 0x34, 0x45, 0x12};
@@ -61,6 +61,14 @@ static void take_time(struct dv100_time answer)
 #define ASK(side)                                                                                                                 \
     static void side##_read_id_row(void) { take_id(side##_read_id(frame, 3)); }                                                   \
     static void side##_survey_row(void) { take_survey(side##_survey(own->system, frame, own->frame_length, list, 4 * ROOM)); }     \
+    static void side##_survey_damaged_row(void)                                                                                   \
+    {                                                                                                                             \
+        take_survey(side##_survey(own->system, damaged, own->frame_length, list, 4 * ROOM));                                      \
+    }                                                                                                                             \
+    static void side##_survey_blank_row(void)                                                                                     \
+    {                                                                                                                             \
+        take_survey(side##_survey(own->system, blank, own->frame_length, list, 4 * ROOM));                                        \
+    }                                                                                                                             \
     static void side##_survey_sequence_row(void)                                                                                  \
     {                                                                                                                             \
         take_survey(side##_survey_sequence(own->system, 0, 7, frame + 7 * SEQUENCE, SEQUENCE, list, 4 * ROOM));                    \
@@ -81,6 +89,10 @@ static void take_time(struct dv100_time answer)
     {                                                                                                                             \
         take_survey(side##_salvage(own->system, damaged, own->frame_length, samples, 8 * own->positions, list, 4 * ROOM));         \
     }                                                                                                                             \
+    static void side##_salvage_blank_row(void)                                                                                    \
+    {                                                                                                                             \
+        take_survey(side##_salvage(own->system, blank, own->frame_length, samples, 8 * own->positions, list, 4 * ROOM));          \
+    }                                                                                                                             \
     static void side##_write_row(void)                                                                                            \
     {                                                                                                                             \
         taken += side##_write(own->system, own->count, sound, 8 * (size_t)own->count, macroblocks, 77 * own->macroblocks,          \
@@ -98,6 +110,8 @@ static const struct {
 } calls[] = {
     ROW("read_id", read_id),
     ROW("survey", survey),
+    ROW("survey, 28 blocks damaged", survey_damaged),
+    ROW("survey, all blocks zeroed", survey_blank),
     ROW("survey_sequence", survey_sequence),
     ROW("view", view),
     ROW("check", check),
@@ -106,6 +120,7 @@ static const struct {
     ROW("read_time", read_time),
     ROW("salvage", salvage),
     ROW("salvage, 28 blocks damaged", salvage_damaged),
+    ROW("salvage, all blocks zeroed", salvage_blank),
     ROW("write", write),
 };
 
