@@ -1,5 +1,6 @@
 /* differ [CASES [SEED]]: the library beside plain.c. Each case makes a frame (written, damaged or rubbish) and asks all ten calls
  * of both sides, with copies of every lent buffer. Answers and buffers, with what lies around them, have to be the same. */
+#define _DEFAULT_SOURCE
 #include "plain.h"
 
 #include <inttypes.h>
@@ -8,6 +9,7 @@
 #include <stdio.h>
 #include <stdlib.h>
 #include <string.h>
+#include <sys/mman.h>
 
 enum { SYSTEMS = 4, DIF_CHANNELS = 4, PLACES = 150, BLOCK = 80, SEQUENCE = 12000, LONGEST = 576000 };
 enum { LIBRARY, PLAIN, SIDES };
@@ -136,15 +138,16 @@ static bool answered(enum call call, const char *fields[], const uint32_t *libra
     return library[0] == 0 && plain[0] == 0;
 }
 
-/* ---- Lent buffers: each side has its own copy between guard bytes; all three copies are the same before a call */
+/* ---- Lent buffers: each side has its own copy between guard bytes; all three copies are the same before a call. Some end at a
+ * wall instead, a page that may not even be read. */
 
-enum { GUARD = 64, SHIFT = 16 };
+enum { GUARD = 64, SHIFT = 16, PAGE = 4096 };
 enum lent { ID, BYTES, FRAME, LIST, SAMPLES, SOUND, MACROBLOCKS, TIME_CODE, BINARY_GROUP, TARGET, BUFFERS };
 
 struct buffer {
     const char *name;
     size_t room, unit; /* the longest length, in bytes, and the bytes of an element */
-    size_t start, length;
+    size_t start, length, behind; /* where it starts, its bytes, and the guard bytes behind them */
     bool null;
     uint8_t *side[SIDES], *before;
 };
@@ -189,25 +192,45 @@ static uint8_t *allocate(size_t size)
     return bytes;
 }
 
+/* So many bytes, and a wall behind them. */
+static uint8_t *allocate_before_wall(size_t size)
+{
+    size_t pages = (size + PAGE - 1) / PAGE * PAGE;
+    uint8_t *bytes = mmap(NULL, pages + PAGE, PROT_READ | PROT_WRITE, MAP_PRIVATE | MAP_ANONYMOUS, -1, 0);
+    if (bytes == MAP_FAILED || mprotect(bytes + pages, PAGE, PROT_NONE) != 0) {
+        fprintf(stderr, "differ: no memory\n");
+        exit(2);
+    }
+    return bytes + pages - size;
+}
+
 static void set_up_buffers(void)
 {
     for (int lent = 0; lent < BUFFERS; lent++) {
         struct buffer *buffer = &buffers[lent];
-        buffer->before = allocate(whole(buffer));
+        buffer->before = allocate(whole(buffer) + GUARD); /* content may be longer than what is lent of it */
         for (int side = 0; side < SIDES; side++)
-            buffer->side[side] = allocate(whole(buffer));
+            buffer->side[side] = allocate_before_wall(whole(buffer));
         renew(buffer);
     }
 }
 
-/* Chooses where the buffer starts, bytes at any address, and how many elements are lent. */
+/* How many bytes are lent. A buffer at the wall keeps its end there, and starts elsewhere. */
+static void lend_bytes(struct buffer *buffer, size_t bytes)
+{
+    buffer->length = bytes < buffer->room ? bytes : buffer->room;
+    buffer->null = buffer->length == 0 && percent(50);
+    if (buffer->behind == 0)
+        buffer->start = whole(buffer) - buffer->length;
+}
+
+/* Chooses where the buffer starts, bytes at any address or so that it ends at the wall, and how many elements are lent. */
 static void set_length(enum lent lent, size_t elements)
 {
     struct buffer *buffer = &buffers[lent];
-    size_t longest = buffer->room / buffer->unit;
+    buffer->behind = percent(25) ? 0 : GUARD;
     buffer->start = GUARD + buffer->unit * below((uint32_t)(SHIFT / buffer->unit));
-    buffer->length = buffer->unit * (elements < longest ? elements : longest);
-    buffer->null = buffer->length == 0 && percent(50);
+    lend_bytes(buffer, buffer->unit * elements);
 }
 
 static size_t elements(enum lent lent)
@@ -226,10 +249,11 @@ static uint8_t *content(enum lent lent)
     return buffers[lent].before + buffers[lent].start;
 }
 
-/* After the content was made: both sides get it. */
+/* After the content was made: both sides get it, as far as the wall. */
 static void share(enum lent lent, size_t size)
 {
-    copy_to_sides(&buffers[lent], buffers[lent].start, size);
+    size_t left = whole(&buffers[lent]) - buffers[lent].start;
+    copy_to_sides(&buffers[lent], buffers[lent].start, size < left ? size : left);
 }
 
 static void compare(const struct buffer *buffer, const char *who, const uint8_t *left, const uint8_t *right, size_t from,
@@ -249,7 +273,7 @@ static void compare(const struct buffer *buffer, const char *who, const uint8_t 
 static void unchanged(enum lent lent)
 {
     struct buffer *buffer = &buffers[lent];
-    size_t end = buffer->start + buffer->length + GUARD;
+    size_t end = buffer->start + buffer->length + buffer->behind;
     compare(buffer, "the library wrote", buffer->side[LIBRARY], buffer->before, 0, end);
     compare(buffer, "plain C wrote", buffer->side[PLAIN], buffer->before, 0, end);
 }
@@ -258,7 +282,7 @@ static void unchanged(enum lent lent)
 static void changed(enum lent lent, bool success)
 {
     struct buffer *buffer = &buffers[lent];
-    size_t past = buffer->start + buffer->length, end = past + GUARD;
+    size_t past = buffer->start + buffer->length, end = past + buffer->behind;
     if (!success) {
         unchanged(lent);
         if (differences > 0)
@@ -730,11 +754,8 @@ static void make_frame(struct scene *scene)
             damage_packs(scene);
     }
     share(FRAME, frame_size(scene->made));
-    if (percent(4)) {
-        size_t length = wrong_frame_length(scene);
-        buffers[FRAME].length = length;
-        buffers[FRAME].null = length == 0 && percent(50);
-    }
+    if (percent(4))
+        lend_bytes(&buffers[FRAME], wrong_frame_length(scene));
 }
 
 /* ---- What the writer is lent */
@@ -907,10 +928,8 @@ static void try_survey_sequence(const struct scene *scene)
     set_length(LIST, list_length());
     uint32_t channel = percent(80) ? here.channel : number_below(DIF_CHANNELS);
     uint32_t sequence = percent(80) ? here.sequence : number_below(12);
-    if (percent(10)) {
-        buffers[BYTES].length = at_most(length_about(SEQUENCE), buffers[BYTES].room);
-        buffers[BYTES].null = buffers[BYTES].length == 0 && percent(50);
-    }
+    if (percent(10))
+        lend_bytes(&buffers[BYTES], length_about(SEQUENCE));
     size_t length = elements(BYTES), list = elements(LIST);
     ask("survey_sequence, system %" PRIu32 ", channel %" PRIu32 ", sequence %" PRIu32 ", %zu bytes, list %zu", here.system, channel,
         sequence, length, list);
