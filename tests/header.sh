@@ -30,11 +30,11 @@ echo 15 >"$work/fifteen"
 same fifteen-lines "$work/fifteen" "$work/lines"
 
 grep -o 'dv100_[a-z_]*(' "$work/header" | tr -d '(' | sort >"$work/declared"
-nm -g --defined-only "$LIBRARY" | awk 'NF == 3 { print $3 }' | sort >"$work/exported"
+$NM -g --defined-only "$LIBRARY" | awk 'NF == 3 { print $3 }' | sort >"$work/exported"
 same exports "$work/declared" "$work/exported"
 
 # the library needs nothing but itself
-nm -u "$LIBRARY" | awk 'NF == 2' >"$work/needed"
+$NM -u "$LIBRARY" | awk 'NF == 2' >"$work/needed"
 same stands-alone /dev/null "$work/needed"
 
 echo '#include "dv100.h"' >"$work/alone.c"
