@@ -1,7 +1,8 @@
 /* dv100: reads, writes, surveys and salvages DIF frames of the 100 Mbit/s DV family (Recommendation ITU-R BT.1620-1).
  *
  * Every call takes every input: it does its job and answers number 0, or it refuses with a number from 1 to 32, answers
- * zeros beside it and changes no buffer. No call keeps a pointer, takes memory, or knows anything of an earlier call.
+ * zeros beside it and changes no buffer. No call keeps a pointer, takes memory, or knows anything of another call, so that any
+ * thread may call at any time.
  *
  *   system  name        frame, bytes  positions  sample counts  macroblocks
  *   0       1080/60/I   480,000       1,620      1,600, 1,602   5,400
