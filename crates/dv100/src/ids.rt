@@ -25,13 +25,13 @@ pub(crate) fn values(answer: IdAnswer) -> IdValues
     match answer {
         IdAnswer::Named(b) => {
             let section = b.section;
-            let number = b.dbn;
+            let dbn = b.dbn;
             IdValues {
                 number: 0,
                 section: layout::section_code(section),
                 channel: b.channel,
                 dseq: b.dseq,
-                dbn: number.0,
+                dbn: dbn.0,
             }
         }
         IdAnswer::Reserved => refused(11),

@@ -1,7 +1,33 @@
-// The first fault of a frame: a survey with room for one record.
+// The first fault of a frame, which ends the search.
+mod sequence;
+
 ghost use mathlib.Core.Path.{_≡_};
-ghost use Rattle.first.specs.Asked.{firstOrLength};
+ghost use Prim.Native.Nat.{_*_};
+ghost use lib.ListN.{length};
+ghost use Rattle.rules.specs.Systems.{sequencesOf};
+ghost use Rattle.rules.specs.Faults.{frameFaults};
+ghost use Rattle.first.specs.Asked.{FirstOf, firstOrLength};
+use layout::CHANNELS;
+use layout::SEQUENCE;
 use rules::System;
+
+// The first fault, sequence by sequence, or 0.
+fn first_in(frame: &[u8], y: System) -> u32
+    requires { ⌜ length (now frame) ≡ 48000 * sequencesOf y ⌝ }
+    ensures { λ r. ⌜ FirstOf r (frameFaults y (now (frame .entry))) ⌝ }
+{
+    let n = layout::sequences(y);
+    let mut j: u32 = 0;
+    while j < n * CHANNELS {
+        let at = (j as usize) * SEQUENCE;
+        let fault = sequence::first_sequence(&frame[at..at + SEQUENCE], j / n, j % n);
+        if fault != 0 {
+            return fault;
+        }
+        j += 1;
+    }
+    0
+}
 
 // The first fault of a frame in stream order, or 0; 2 where the frame has not its length.
 pub fn first_fault(y: System, frame: &[u8]) -> u32
@@ -10,7 +36,5 @@ pub fn first_fault(y: System, frame: &[u8]) -> u32
     if frame.len() != layout::frame_bytes(y) {
         return 2;
     }
-    let mut list: [u32; 4] = [0; 4];
-    surveys::survey_known(y, frame, &mut list);
-    list[3]
+    first_in(frame, y)
 }

@@ -29,11 +29,10 @@ unfoldable pub agreesAt : System → Pack → Pack → Bool → List ℕ → ℕ
 agreesAt y time group first part k = packAgrees y time group (kindOf first k) (ssybIn k part)
 
 module _ (y : System) (time group : Pack) (first : Bool) (part : List ℕ) (k : ℕ) (good : Bool) (so-far : good ≡ below (agreesAt y time group first part) k) where
-  pub ssyb-turn : (kind : SubcodePack) (p : Pack) (x : Bool) → kind ≡ kindOf first k → p ≡ ssybIn k part → x ≡ packAgrees y time group kind p
-      → (x && good) ≡ below (agreesAt y time group first part) (k + 1)
+  pub ssyb-turn : (kind : SubcodePack) (x : Bool) → kind ≡ kindOf first k → x ≡ packAgrees y time group kind (ssybIn k part) → (x && good) ≡ below (agreesAt y time group first part) (k + 1)
   unfolding agreesAt
-  ssyb-turn kind p x ek ep ex =
-      let here : x ≡ agreesAt y time group first part k = ex ∙ rw (ek, ep) refl in
+  ssyb-turn kind x ek ex =
+      let here : x ≡ agreesAt y time group first part k = ex ∙ rw ek refl in
       rw (here, so-far) (below-more (agreesAt y time group first part) k)
 
   pub ssyb-done : (q s : ℕ) → first ≡ ltb q s → s ≡ halfOf y → k ≤ 12 → 12 ≤ k → good ≡ subcodeAgrees y time group q part

@@ -72,16 +72,17 @@ module _ (y : System) (p : Pack) (rate : ℕ) (er : rate ≡ rateOf y) where
   unfolding settled pick
   settled-60 d = let test : eqb (rateOf y) 1 ≡ false = ne-eqb _ _ (λ z. d (er ∙ z)) in rw test refl
 
-module _ (y : System) (time group : Pack) (kind : SubcodePack) (p : Pack) where
-  pub time-arm : (one other : Pack) (x : Bool) → kind ≡ TimeCode → one ≡ settled y p → other ≡ settled y time → x ≡ samePack one other → x ≡ packAgrees y time group kind p
+module _ (y : System) (time group : Pack) (kind : SubcodePack) (k : ℕ) (part : List ℕ) where
+  pub time-arm : (p one other : Pack) (x : Bool) → kind ≡ TimeCode → p ≡ ssybIn k part → one ≡ settled y p → other ≡ settled y time → x ≡ samePack one other
+      → x ≡ packAgrees y time group kind (ssybIn k part)
   unfolding packAgrees
-  time-arm one other x e eo et ex = ex ∙ rw (eo, et, e) refl
+  time-arm p one other x e ep eo et ex = ex ∙ rw (eo, et, e, ep) refl
 
-  pub group-arm : (x : Bool) → kind ≡ BinaryGroup → x ≡ samePack p group → x ≡ packAgrees y time group kind p
+  pub group-arm : (p : Pack) (x : Bool) → kind ≡ BinaryGroup → p ≡ ssybIn k part → x ≡ samePack p group → x ≡ packAgrees y time group kind (ssybIn k part)
   unfolding packAgrees
-  group-arm x e ex = ex ∙ rw e refl
+  group-arm p x e ep ex = ex ∙ rw (e, ep) refl
 
-  pub none-arm : kind ≡ NoPack → true ≡ packAgrees y time group kind p
+  pub none-arm : kind ≡ NoPack → true ≡ packAgrees y time group kind (ssybIn k part)
   unfolding packAgrees
   none-arm e = rw e refl
 

@@ -1,7 +1,7 @@
 // The time code and the binary group of a frame, and the packs that must agree with them.
 ghost use mathlib.Core.Path.{_≡_};
-ghost use Rattle.rules.specs.Time.{timeFirst, groupFirst, settled, samePack, packAgrees, subcodeAgrees};
-ghost use Rattle.judges.specs.Asked.{partAt, Low};
+ghost use Rattle.rules.specs.Time.{timeFirst, groupFirst, settled, samePack, packAgrees, ssybIn, subcodeAgrees};
+ghost use Rattle.judges.specs.Asked.{partAt, Low, SsybAsked};
 use crate::read;
 use rules::Pack;
 use rules::SubcodePack;
@@ -46,13 +46,28 @@ fn same_pack(p: Pack, o: Pack) -> bool
         & ((p.pc1 == o.pc1) & ((p.pc2 == o.pc2) & ((p.pc3 == o.pc3) & (p.pc4 == o.pc4))))
 }
 
-// The pack p of an SSYB is the one that its position carries.
-fn pack_agrees(y: System, time: Pack, group: Pack, kind: SubcodePack, p: Pack) -> bool
-    ensures { λ r. ⌜ r ≡ packAgrees y time group kind p ⌝ }
+// The pack of SSYB k is the one that its position carries. A pack that is not asked is not read.
+fn pack_agrees(
+    y: System,
+    frame: &[u8],
+    at: usize,
+    k: u32,
+    time: Pack,
+    group: Pack,
+    kind: SubcodePack,
+) -> bool
+    requires { ⌜ SsybAsked at k ⌝ }
+    ensures { λ r. ⌜ r ≡ packAgrees y time group kind (ssybIn k (partAt (now (frame .entry)) at)) ⌝ }
 {
     match kind {
-        SubcodePack::TimeCode => same_pack(settled(y, p), settled(y, time)),
-        SubcodePack::BinaryGroup => same_pack(p, group),
+        SubcodePack::TimeCode => {
+            let p = read::ssyb_in(frame, at, k);
+            same_pack(settled(y, p), settled(y, time))
+        }
+        SubcodePack::BinaryGroup => {
+            let p = read::ssyb_in(frame, at, k);
+            same_pack(p, group)
+        }
         SubcodePack::NoPack => true,
     }
 }
@@ -74,7 +89,7 @@ pub(crate) fn subcode_agrees(
     let mut k: u32 = 0;
     while k < 12 {
         let kind = packs::kind_of(first, k);
-        good = pack_agrees(y, time, group, kind, read::ssyb_in(frame, at, k)) & good;
+        good = pack_agrees(y, frame, at, k, time, group, kind) & good;
         k += 1;
     }
     good

@@ -11,7 +11,7 @@ use mir.Val.{Fits}
 use borrow.Author.Tests.{eq-eqb, eqb-true}
 use Rattle.base.specs.Run.{run}
 use Rattle.base.proofs.Parts.{range-part, length-part}
-use Rattle.base.proofs.Picks.{pick-true, both-held}
+use Rattle.base.proofs.Picks.{pick-true, both-held, both-hold}
 use Rattle.base.proofs.Runs.{run-zero, run-more}
 use Rattle.rules.specs.declared.Fault.{Fault}
 use Rattle.rules.specs.Blocks.{blockIn}
@@ -47,12 +47,17 @@ module _ (part : List ℕ) (h q p : ℕ) (a : PartAsked part h q 0) (l : p < 150
         few = omega arith;
       }
 
-  pub clean-place : (good : Bool) (bits : ℕ) → Clean good (run (placeFaults part h q) p) → JudgedBlock (take (p * 80 + 80 - p * 80) (drop (p * 80) part)) bits
-      → Clean (good && eqb bits (getD table p 0 + k)) (run (placeFaults part h q) (p + 1))
-  unfolding blockIn blockFaults
-  clean-place good bits m j =
-      clean-turn (placeFaults part h q) p good _ m
-      (record { none = λ s. pick-true _ _ (eq-eqb _ 0 (rw (range-part (p * 80) 80 part) at (clean-block asked j (eqb-true _ _ s)))) })
+  module _ (good : Bool) (bits : ℕ) (m : Clean good (run (placeFaults part h q) p)) (j : JudgedBlock (take (p * 80 + 80 - p * 80) (drop (p * 80) part)) bits) where
+    pub clean-bits : Clean (good && eqb bits (getD table p 0 + k)) (run (placeFaults part h q) (p + 1))
+    unfolding blockIn blockFaults
+    clean-bits =
+        clean-turn (placeFaults part h q) p good _ m
+        (record { none = λ s. pick-true _ _ (eq-eqb _ 0 (rw (range-part (p * 80) 80 part) at (clean-block asked j (eqb-true _ _ s)))) })
+
+    -- a flag that says more
+    pub clean-named : (named : Bool) → Clean (good && (named && eqb bits (getD table p 0 + k))) (run (placeFaults part h q) (p + 1))
+    clean-named named =
+        record { none = λ s. let two = both-held good _ s in clean-bits .none (both-hold (two .0) (both-held named _ (two .1) .1)) }
 
 pub clean-places : (part : List ℕ) (h q p : ℕ) (good : Bool) → p ≤ 150 → 150 ≤ p → Clean good (run (placeFaults part h q) p) → Clean good (sequenceFaults part h q)
 unfolding sequenceFaults

@@ -1,6 +1,6 @@
 -- What the private functions ask, and what the public ones say.
 use mathlib.Core.Path.{_≡_}
-use mathlib.Core.Bool.{Bool, true, not, _&&_}
+use mathlib.Core.Bool.{Bool, true, false, not, _&&_}
 use mathlib.Core.List.{List, []}
 use Prim.Native.Nat.{ℕ, _/_, _≤_, _<_, min}
 use lib.Dec.{eqb, ltb}
@@ -8,6 +8,8 @@ use lib.ListN.{length}
 use Rattle.base.specs.Pick.{pick}
 use Rattle.rules.specs.declared.System.{System}
 use Rattle.rules.specs.declared.SystemNumber.the-variants.{Known}
+use Rattle.rules.specs.declared.IdAnswer.{IdAnswer}
+use Rattle.rules.specs.declared.IdAnswer.the-variants.{Named, Reserved, WrongLength}
 use Rattle.rules.specs.declared.Fault.{Fault}
 use Rattle.rules.specs.declared.Survey.{Survey}
 use Rattle.rules.specs.Places.{place, entryAt}
@@ -32,6 +34,12 @@ pub record PartAsked (part : List ℕ) (h q t : ℕ) : Type 0 where
   pub whole : length part ≡ 12000
   pub sequence : InSequence h q
   pub few : t < 8000
+
+-- whether an ID names a block at all
+abbrev pub isNamed : IdAnswer → Bool
+isNamed (Named b) = true
+isNamed Reserved = false
+isNamed WrongLength = false
 
 -- where r says so there is no fault
 pub record Clean (r : Bool) (fs : List Fault) : Type 0 where

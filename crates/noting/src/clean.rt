@@ -1,10 +1,24 @@
-// Whether a sequence has no fault, by the judged bits of its IDs alone.
+// Whether a sequence has no fault.
+ghost use mathlib.Core.Path.{_≡_};
 ghost use Rattle.rules.specs.Faults.{sequenceFaults};
-ghost use Rattle.noting.specs.Asked.{Clean, PartAsked};
+ghost use Rattle.noting.specs.Asked.{Clean, isNamed, PartAsked};
 use layout::BLOCK;
 use layout::PLACES;
+use rules::IdAnswer;
 
-// Whether the judged bits of every block are its place's. No early return, so that a block costs few instructions.
+// Whether an ID names a block at all.
+fn is_named(id: IdAnswer) -> bool
+    ensures { λ r. ⌜ r ≡ isNamed id ⌝ }
+{
+    match id {
+        IdAnswer::Named(_) => true,
+        IdAnswer::Reserved => false,
+        IdAnswer::WrongLength => false,
+    }
+}
+
+// Whether every block is named and the judged bits of its ID are its place's. No early return, so that a block costs few
+// instructions.
 pub(crate) fn clean_part(part: &[u8], h: u32, q: u32) -> bool
     requires { ⌜ PartAsked (now part) h q 0 ⌝ }
     ensures { λ r. ⌜ Clean r (sequenceFaults (now (part .entry)) h q) ⌝ }
@@ -16,8 +30,10 @@ pub(crate) fn clean_part(part: &[u8], h: u32, q: u32) -> bool
     while p < PLACES {
         let i = p as usize;
         let at = i * BLOCK;
-        let bits = bits::judged(&part[at..at + BLOCK]);
-        good = good & (bits == table[i] + key);
+        let block = &part[at..at + BLOCK];
+        let named = is_named(layout::read_block(block));
+        let bits = bits::judged(block);
+        good = good & (named & (bits == table[i] + key));
         p += 1;
     }
     good

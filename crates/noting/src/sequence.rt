@@ -72,8 +72,8 @@ pub(crate) fn survey_part(part: &[u8], h: u32, q: u32, list: &mut [u32], t: u32)
     total
 }
 
-// The survey of one sequence where t faults came before: block by block only where some block is not clean. Nothing is surveyed where the sequence is none of the system's, or
-// after 8,000 faults.
+// The survey of one sequence where t faults came before: block by block only where it is not clean. Nothing is surveyed where
+// the sequence is none of the system's, or after 8,000 faults.
 pub fn survey_next(y: System, h: u32, q: u32, part: &[u8], list: &mut [u32], t: u32) -> u32
     ensures { λ r. ⌜ Noted (now (list .entry)) t (nextFaults y h q (now (part .entry)) t) (now (list .exit)) r ⌝ }
 {

@@ -52,7 +52,7 @@ pub fn view_at(system: u32, frame: &[u8], channel: u32, sequence: u32, place: Pl
     Part {
         number: 0,
         start: block_start(y, channel, sequence, place) as u32,
-        length: 80,
+        length: BLOCK as u32,
     }
 }
 

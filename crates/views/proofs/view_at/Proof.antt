@@ -34,6 +34,9 @@ block-start-requires c κs = search (lies-in, needs)
 cast-t11 : tie.Need-cast-t11
 cast-t11 c = search needs
 
+cast-t12 : tie.Need-cast-t12
+cast-t12 c = search needs
+
 returns-3 : tie.Need-returns-3
 returns-3 c = search (lies-found, needs)
 
@@ -51,4 +54,5 @@ view-at-spec =
     returns-2
     block-start-requires
     cast-t11
+    cast-t12
     returns-3)

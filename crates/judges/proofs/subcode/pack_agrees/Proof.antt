@@ -7,6 +7,9 @@ use Rattle.judges.proofs.subcode.pack_agrees.Tie as tie
 enum-told : tie.Need-enum-told
 enum-told c = search needs
 
+ssyb-in-requires : tie.Need-ssyb-in-requires
+ssyb-in-requires c κs = search needs
+
 settled-requires : tie.Need-settled-requires
 settled-requires c κs = search needs
 
@@ -18,6 +21,9 @@ same-pack-requires c κs = search needs
 
 enum-told-2 : tie.Need-enum-told-2
 enum-told-2 c = search needs
+
+ssyb-in-requires-2 : tie.Need-ssyb-in-requires-2
+ssyb-in-requires-2 c κs = search needs
 
 same-pack-requires-2 : tie.Need-same-pack-requires-2
 same-pack-requires-2 c κs = search needs
@@ -39,10 +45,12 @@ pack-agrees-spec =
     tie.close
     (tie.spec
     enum-told
+    ssyb-in-requires
     settled-requires
     settled-requires-2
     same-pack-requires
     enum-told-2
+    ssyb-in-requires-2
     same-pack-requires-2
     enum-told-3
     returns

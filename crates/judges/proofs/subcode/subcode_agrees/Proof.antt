@@ -25,9 +25,6 @@ loop-holds c = (refl, omega arith)
 kind-of-requires : tie.Need-kind-of-requires Inv-loop μ-loop
 kind-of-requires c κs = search needs
 
-ssyb-in-requires : tie.Need-ssyb-in-requires Inv-loop μ-loop
-ssyb-in-requires c κs = search needs
-
 pack-agrees-requires : tie.Need-pack-agrees-requires Inv-loop μ-loop
 pack-agrees-requires c κs = search needs
 
@@ -39,8 +36,8 @@ loop-less c = search needs
 
 loop-again : tie.Need-loop-again Inv-loop μ-loop
 loop-again c =
-    let so-far = c .before .before .before .before .loop .inv .0 in
-    (ssyb-turn _ _ _ _ _ _ _ so-far _ _ _ (c .before .before .kind-of .ensures) (c .before .ssyb-in .ensures) (c .pack-agrees .ensures), omega arith)
+    let so-far = c .before .before .before .loop .inv .0 in
+    (ssyb-turn _ _ _ _ _ _ _ so-far _ _ (c .before .kind-of .ensures) (c .pack-agrees .ensures), omega arith)
 
 returns : tie.Need-returns Inv-loop μ-loop
 returns c = search (ssyb-done, needs)
@@ -54,7 +51,6 @@ subcode-agrees-spec =
     half-requires
     loop-holds
     kind-of-requires
-    ssyb-in-requires
     pack-agrees-requires
     add-k
     loop-less

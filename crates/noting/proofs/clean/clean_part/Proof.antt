@@ -4,7 +4,7 @@ use native.Mathlib.Omega.{arith}
 use borrow.Author.Needs.{needs}
 use Rattle.base.specs.Run.{run}
 use Rattle.rules.specs.Faults.{placeFaults}
-use Rattle.noting.proofs.Clear.{clean-start, bits-fit, clean-place, clean-places}
+use Rattle.noting.proofs.Clear.{clean-start, bits-fit, clean-named, clean-places}
 use Rattle.noting.specs.Asked.{Clean}
 use Rattle.noting.proofs.clean.clean_part.Statement.{statement}
 use Rattle.noting.proofs.clean.clean_part.Tie as tie
@@ -30,17 +30,23 @@ cast-i c = omega arith
 mul-at : tie.Need-mul-at Inv-loop μ-loop
 mul-at c = omega arith
 
-add-judged : tie.Need-add-judged Inv-loop μ-loop
-add-judged c = omega arith
+add-block : tie.Need-add-block Inv-loop μ-loop
+add-block c = omega arith
 
-sub-judged : tie.Need-sub-judged Inv-loop μ-loop
-sub-judged c = omega arith
+sub-block : tie.Need-sub-block Inv-loop μ-loop
+sub-block c = omega arith
 
-part-judged-start : tie.Need-part-judged-start Inv-loop μ-loop
-part-judged-start c = omega arith
+part-block-start : tie.Need-part-block-start Inv-loop μ-loop
+part-block-start c = omega arith
 
-part-judged-end : tie.Need-part-judged-end Inv-loop μ-loop
-part-judged-end c = omega arith
+part-block-end : tie.Need-part-block-end Inv-loop μ-loop
+part-block-end c = omega arith
+
+read-block-requires : tie.Need-read-block-requires Inv-loop μ-loop
+read-block-requires c κs = search needs
+
+is-named-requires : tie.Need-is-named-requires Inv-loop μ-loop
+is-named-requires c κs = search needs
 
 judged-requires : tie.Need-judged-requires Inv-loop μ-loop
 judged-requires c κs = search needs
@@ -61,7 +67,7 @@ loop-less : tie.Need-loop-less Inv-loop μ-loop
 loop-less c = omega arith
 
 loop-again : tie.Need-loop-again Inv-loop μ-loop
-loop-again c = (search (clean-place, needs), omega arith)
+loop-again c = (search (clean-named, needs), omega arith)
 
 returns : tie.Need-returns Inv-loop μ-loop
 returns c = search (clean-places, needs)
@@ -77,10 +83,12 @@ clean-part-spec =
     loop-holds
     cast-i
     mul-at
-    add-judged
-    sub-judged
-    part-judged-start
-    part-judged-end
+    add-block
+    sub-block
+    part-block-start
+    part-block-end
+    read-block-requires
+    is-named-requires
     judged-requires
     mul-good
     array-read-good
