@@ -18,42 +18,39 @@ fn block_start(y: System, h: u32, q: u32, p: Place) -> usize
     (((n * h + q) * PLACES + place) as usize) * BLOCK
 }
 
-// The number of a block view. Refusals: 1, 2, 3 and the block's own 11 to 15.
-pub fn view_number(system: u32, frame: &[u8], channel: u32, sequence: u32, place: Place) -> u32
-    ensures { λ r. ⌜ ViewNumbered system (now (frame .entry)) channel sequence place r ⌝ }
-{
-    let SystemNumber::Known(y) = layout::system_of(system) else {
-        return 1;
-    };
-    let p = place.0;
-    let misfit = frame.len() != layout::frame_bytes(y);
-    let out = faults::outside(y, channel, sequence) | (PLACES <= p);
-    if misfit {
-        return 2;
-    }
-    if out {
-        return 3;
-    }
-    let at = block_start(y, channel, sequence, place);
-    faults::fault_at(&frame[at..at + BLOCK], channel, sequence, place)
-}
-
-// Where the view of a block lies: its first byte and its length, 80; zeros where its number is a refusal.
+// Where the view of a block lies: its first byte and its length, 80. Refusals: 1, 2, 3 and the block's own 11 to 15.
 pub fn view_at(system: u32, frame: &[u8], channel: u32, sequence: u32, place: Place) -> Part
     ensures { λ r. ⌜ ViewLies system (now (frame .entry)) channel sequence place r ⌝ }
 {
     let SystemNumber::Known(y) = layout::system_of(system) else {
         return layout::no_part(1);
     };
-    let number = view_number(system, frame, channel, sequence, place);
-    if number != 0 {
-        return layout::no_part(number);
+    let p = place.0;
+    let misfit = frame.len() != layout::frame_bytes(y);
+    let out = faults::outside(y, channel, sequence) | (PLACES <= p);
+    if misfit {
+        return layout::no_part(2);
+    }
+    if out {
+        return layout::no_part(3);
+    }
+    let at = block_start(y, channel, sequence, place);
+    let fault = faults::fault_at(&frame[at..at + BLOCK], channel, sequence, place);
+    if fault != 0 {
+        return layout::no_part(fault);
     }
     Part {
         number: 0,
-        start: block_start(y, channel, sequence, place) as u32,
+        start: at as u32,
         length: BLOCK as u32,
     }
+}
+
+// The number of a block view.
+pub fn view_number(system: u32, frame: &[u8], channel: u32, sequence: u32, place: Place) -> u32
+    ensures { λ r. ⌜ ViewNumbered system (now (frame .entry)) channel sequence place r ⌝ }
+{
+    view_at(system, frame, channel, sequence, place).number
 }
 
 // The 80 bytes of a block, a part of the frame; none where its number is a refusal.

@@ -1,70 +1,14 @@
--- `views::view_number` meets its contract: one lemma for each way out. Assumes nothing.
+-- `views::view_number` meets its contract: the number that view_at answers. Assumes nothing.
 use borrow.Author.Needs.{needs}
-use Rattle.views.proofs.Ways.{view-no-system, view-wrong-length, view-outside, view-at, view-in, view-within}
+use Rattle.views.proofs.Ways.{part-numbered}
 use Rattle.views.proofs.view_number.Statement.{statement}
 use Rattle.views.proofs.view_number.Tie as tie
 
-system-of-requires : tie.Need-system-of-requires
-system-of-requires c κs = search needs
-
-enum-known-y : tie.Need-enum-known-y
-enum-known-y c = search needs
-
-enum-told : tie.Need-enum-told
-enum-told c = search needs
+view-at-requires : tie.Need-view-at-requires
+view-at-requires c κs = search needs
 
 returns : tie.Need-returns
-returns c = search (view-no-system, needs)
-
-frame-bytes-requires : tie.Need-frame-bytes-requires
-frame-bytes-requires c κs = search needs
-
-outside-requires : tie.Need-outside-requires
-outside-requires c κs = search needs
-
-returns-2 : tie.Need-returns-2
-returns-2 c = search (view-wrong-length, needs)
-
-returns-3 : tie.Need-returns-3
-returns-3 c = search (view-outside, needs)
-
-block-start-requires : tie.Need-block-start-requires
-block-start-requires c κs = search (view-in, needs)
-
-add-fault-at : tie.Need-add-fault-at
-add-fault-at c = search needs
-
-sub-fault-at : tie.Need-sub-fault-at
-sub-fault-at c = search needs
-
-part-fault-at-start : tie.Need-part-fault-at-start
-part-fault-at-start c = search needs
-
-part-fault-at-end : tie.Need-part-fault-at-end
-part-fault-at-end c = search (view-within, needs)
-
-fault-at-requires : tie.Need-fault-at-requires
-fault-at-requires c κs = search needs
-
-returns-4 : tie.Need-returns-4
-returns-4 c = search (view-at, needs)
+returns c = search (part-numbered, needs)
 
 pub view-number-spec : {M : Type 1} → statement M
-view-number-spec =
-    tie.close
-    (tie.spec
-    system-of-requires
-    enum-known-y
-    enum-told
-    returns
-    frame-bytes-requires
-    outside-requires
-    returns-2
-    returns-3
-    block-start-requires
-    add-fault-at
-    sub-fault-at
-    part-fault-at-start
-    part-fault-at-end
-    fault-at-requires
-    returns-4)
+view-number-spec = tie.close (tie.spec view-at-requires returns)
