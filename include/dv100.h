@@ -21,14 +21,16 @@
  *   11   a block's section is reserved
  *   12, 13, 14, 15   a block's section, DIF channel, sequence, block number is not its place's
  *   21   some header's rate is not the system's
- *   22   some video source pack disagrees with the system
- *   23   some header calls the audio, the picture or the subcode invalid
- *   24   an audio source pack of the audio channel breaks the rules
+ *   22   some video source pack disagrees with the system, where its sequence's header does not call the picture invalid
+ *   23   some header calls the sound (audio read), the picture (macroblock read) or the subcode (time code read) invalid
+ *   24   an audio source pack of the audio channel breaks the rules (docs/RULES.md, "AAUX")
  *   25   the audio channel's source packs differ in their count
  *   26   the first time code or binary group has a wrong header, or the time code a wrong digit
  *   27   another time code or binary group of the frame differs from the first
  *   31   a sample to be written is outside -32,768 to 32,768
- *   32   a time code to be written breaks the rules
+ *   32   a time code to be written has a wrong digit, or at 50 Hz a 0 in bit 6 of its first byte
+ *
+ * Digits of a time code: units 0 to 9; frames to 29 (24 at 50 Hz), seconds and minutes to 59, hours to 23.
  *
  * What C must hold to, and nothing checks: a pointer leads to as many elements as its length says (with length 0 it is not
  * followed and may be NULL), is aligned for them, and a buffer that is written overlaps no other buffer of the same call.
@@ -92,7 +94,7 @@ struct dv100_survey dv100_survey_sequence(uint32_t system, uint32_t channel, uin
 struct dv100_part dv100_view(uint32_t system, const uint8_t *frame, size_t frame_length, uint32_t channel, uint32_t sequence,
                              uint32_t place);
 
-/* Whether every block names its place and every header and video source pack agrees with the system: 0, or the refusal.
+/* Whether every block names its place, and headers and video source packs agree with the system: 0, or the refusal.
  * Refusals: 1, 2, 11 to 15 (the first faulty block's), 21, 22. */
 uint32_t dv100_check(uint32_t system, const uint8_t *frame, size_t frame_length);
 

@@ -1,6 +1,6 @@
 #!/bin/bash
 # The C header beside the exports: every prototype and struct is what the sources say (tests/header.pl), every name is in the static
-# library and no other, and the header is good C and C++ by itself. A difference fails.
+# library and no other, and the header is good C by itself, and good C++ where there is a compiler for it. A difference fails.
 set -u
 cd "$(dirname "$0")/.."
 . tests/c/env.sh
@@ -29,6 +29,7 @@ wc -l <"$work/header" >"$work/lines"
 echo 15 >"$work/fifteen"
 same fifteen-lines "$work/fifteen" "$work/lines"
 
+$NM "$LIBRARY" >"$work/names" || { echo "header test FAILED: the static library cannot be read"; exit 1; }
 grep -o 'dv100_[a-z_]*(' "$work/header" | tr -d '(' | sort >"$work/declared"
 $NM -g --defined-only "$LIBRARY" | awk 'NF == 3 { print $3 }' | sort >"$work/exported"
 same exports "$work/declared" "$work/exported"
@@ -40,5 +41,10 @@ same stands-alone /dev/null "$work/needed"
 echo '#include "dv100.h"' >"$work/alone.c"
 $CC -std=c99 -Wall -Wextra -pedantic -Werror -Iinclude -c "$work/alone.c" -o "$work/alone.o" >"$work/said" 2>&1
 same c99 /dev/null "$work/said"
+
+if command -v g++ >/dev/null; then
+    g++ -std=c++11 -Wall -Wextra -pedantic -Werror -Iinclude -fsyntax-only -x c++ "$work/alone.c" >"$work/said" 2>&1
+    same c++11 /dev/null "$work/said"
+fi
 
 [ "$failed" -eq 0 ] && echo "header: 10 calls and 5 structs agree with the exports"

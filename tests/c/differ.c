@@ -273,7 +273,7 @@ static void compare(const struct buffer *buffer, const char *who, const uint8_t 
 static void unchanged(enum lent lent)
 {
     struct buffer *buffer = &buffers[lent];
-    size_t end = buffer->start + buffer->length + buffer->behind;
+    size_t end = whole(buffer);
     compare(buffer, "the library wrote", buffer->side[LIBRARY], buffer->before, 0, end);
     compare(buffer, "plain C wrote", buffer->side[PLAIN], buffer->before, 0, end);
 }
@@ -282,7 +282,7 @@ static void unchanged(enum lent lent)
 static void changed(enum lent lent, bool success)
 {
     struct buffer *buffer = &buffers[lent];
-    size_t past = buffer->start + buffer->length, end = past + buffer->behind;
+    size_t past = buffer->start + buffer->length, end = whole(buffer);
     if (!success) {
         unchanged(lent);
         if (differences > 0)
@@ -1080,7 +1080,7 @@ static void try_write(const struct scene *scene)
 {
     uint32_t like = percent(95) && scene->system < SYSTEMS ? scene->system : scene->made;
     uint32_t count = make_lent(like), kept = below(KEPT);
-    ask_write(scene, count, percent(50) ? pool[like][kept] : NULL);
+    ask_write(scene, count, percent(50) && like == scene->system ? pool[like][kept] : NULL);
 }
 
 /* ---- Cases */

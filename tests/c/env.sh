@@ -8,8 +8,8 @@ need() {
     shift
     command -v "$command" >/dev/null && return 0
     echo "installing $* for $command" >&2
-    [ "$(id -u)" -eq 0 ] || as=sudo
-    local install="$as apt-get install -y -q --no-install-recommends $*"
+    [ "$(id -u)" -eq 0 ] || as="sudo -n"
+    local install="$as env DEBIAN_FRONTEND=noninteractive apt-get install -y -q --no-install-recommends $*"
     $install >/dev/null 2>&1 || { $as apt-get update -q >/dev/null 2>&1 && $install >/dev/null 2>&1; }
     command -v "$command" >/dev/null || { echo "$command is missing, and Debian's $* could not be installed" >&2; return 1; }
 }
@@ -27,7 +27,7 @@ fi
 # build_library: proves the face for C and what it stands on, where that is not done, and writes the static library
 LIBRARY=$top/target/staticlib/libdv100.a
 build_library() {
-    [ -f "$LIBRARY" ] && [ -z "$(find "$top/crates" -name '*.rt' -newer "$LIBRARY" -print -quit)" ] && return 0
+    [ -f "$LIBRARY" ] && [ -z "$(find "$top/crates" \( -name '*.rt' -o -name '*.antt' \) -newer "$LIBRARY" -print -quit)" ] && return 0
     local said
     said=$(cd "$top" && rt staticlib dv100 2>&1 </dev/null) || { printf '%s\n' "$said" >&2; return 1; }
 }

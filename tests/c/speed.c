@@ -75,6 +75,8 @@ static void take_time(struct dv100_time answer)
     }                                                                                                                             \
     static void side##_view_row(void) { take_part(side##_view(own->system, frame, own->frame_length, 2, 7, 77)); }                \
     static void side##_check_row(void) { taken += side##_check(own->system, frame, own->frame_length); }                          \
+    static void side##_check_damaged_row(void) { taken += side##_check(own->system, damaged, own->frame_length); }                \
+    static void side##_check_blank_row(void) { taken += side##_check(own->system, blank, own->frame_length); }                    \
     static void side##_read_audio_row(void)                                                                                       \
     {                                                                                                                             \
         take_audio(side##_read_audio(own->system, frame, own->frame_length, 4, samples, own->positions));                          \
@@ -115,6 +117,8 @@ static const struct {
     ROW("survey_sequence", survey_sequence),
     ROW("view", view),
     ROW("check", check),
+    ROW("check, block 7 damaged", check_damaged),
+    ROW("check, all blocks zeroed", check_blank),
     ROW("read_audio", read_audio),
     ROW("macroblock", macroblock),
     ROW("read_time", read_time),

@@ -11,11 +11,11 @@ pub fn checked(y: System, frame: &[u8]) -> u32
     ensures { λ r. ⌜ r ≡ wholeNumber y (now (frame .entry)) ⌝ }
 {
     let fault = first::first_fault(y, frame);
-    let dsf = judges::every_sequence(y, frame, Test::Dsf);
-    let vs = judges::every_sequence(y, frame, Test::Vs);
     if fault != 0 {
         return fault;
     }
+    let dsf = judges::every_sequence(y, frame, Test::Dsf);
+    let vs = judges::every_sequence(y, frame, Test::Vs);
     if !dsf {
         return 21;
     }

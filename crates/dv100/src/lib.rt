@@ -99,7 +99,7 @@ pub extern "C" fn dv100_read_time(system: u32, frame: &[u8]) -> TimeAnswer
     reader::read_time(system, frame)
 }
 
-// Every sample that can be trusted, the others as lost, and the fault list. Refusals: 1, 2, 4.
+// Each sample whose block names its place as it is stored, the others as lost, and the fault list. Refusals: 1, 2, 4.
 #[no_mangle]
 pub extern "C" fn dv100_salvage(
     system: u32,

@@ -7,14 +7,14 @@ use Rattle.asks.proofs.checked.Tie as tie
 first-fault-requires : tie.Need-first-fault-requires
 first-fault-requires c κs = search needs
 
+returns : tie.Need-returns
+returns c = search (checked-fault, needs)
+
 every-sequence-requires : tie.Need-every-sequence-requires
 every-sequence-requires c κs = search needs
 
 every-sequence-requires-2 : tie.Need-every-sequence-requires-2
 every-sequence-requires-2 c κs = search needs
-
-returns : tie.Need-returns
-returns c = search (checked-fault, needs)
 
 returns-2 : tie.Need-returns-2
 returns-2 c = search (checked-21, needs)
@@ -30,9 +30,9 @@ checked-spec =
     tie.close
     (tie.spec
     first-fault-requires
+    returns
     every-sequence-requires
     every-sequence-requires-2
-    returns
     returns-2
     returns-3
     returns-4)
