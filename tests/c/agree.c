@@ -15,6 +15,7 @@ enum {
     MOST_PICTURE = PAPER_MOST_MACROBLOCKS * PAPER_PAYLOAD_BYTES,
     SEQUENCE_BYTES = PAPER_PLACES * PAPER_BLOCK_BYTES,
     RECORD = 4,
+    LAST_REFUSAL = 32,
     UNTOUCHED = 0x5a5a5a5a
 };
 
@@ -37,6 +38,7 @@ struct tally {
     char about[128], first[128];
     const char *things;
     unsigned long compared, differed;
+    unsigned long answered[LAST_REFUSAL + 1]; /* how often each number, where the line tells */
 };
 
 static unsigned lines_that_differ;
@@ -79,9 +81,29 @@ static void require(struct tally *tally, int holds, const char *where, ...)
     va_end(values);
 }
 
+/* Counts an answered number, for the line to tell. */
+static void tell_answer(struct tally *tally, uint32_t number)
+{
+    require(tally, number <= LAST_REFUSAL, "the library answers %u", number);
+    if (number <= LAST_REFUSAL)
+        tally->answered[number]++;
+}
+
+static void print_answers(const struct tally *tally)
+{
+    const char *before = ", ", *after = "";
+    for (unsigned number = 0; number <= LAST_REFUSAL; number++)
+        if (tally->answered[number] > 0) {
+            printf("%s%lu of %u", before, tally->answered[number], number);
+            after = ",";
+        }
+    printf("%s ", after);
+}
+
 static void print_tally(const struct tally *tally)
 {
-    printf("%s: %lu %s ", tally->about, tally->compared, tally->things);
+    printf("%s: %lu %s", tally->about, tally->compared, tally->things);
+    print_answers(tally);
     if (tally->differed == 0) {
         puts("agree");
         return;
@@ -458,7 +480,7 @@ static void compare_picture_lent(const struct trial *trial)
     print_tally(&tally);
 }
 
-/* Video DIF blocks that carry no macroblock have a payload of ones. */
+/* Video DIF blocks that carry no macroblock, where a system has them, have a payload of ones. */
 static void compare_empty_slots(const struct trial *trial)
 {
     struct tally tally = tally_of_trial(trial, "blocks", "ones in video blocks without a macroblock");
@@ -471,7 +493,8 @@ static void compare_empty_slots(const struct trial *trial)
                 compare(&tally, all_ones(trial->frame + start + PAPER_PAYLOAD, PAPER_PAYLOAD_BYTES), "V %u,%u of %u", dbn,
                         h, dsn);
             }
-    print_tally(&tally);
+    if (tally.compared > 0)
+        print_tally(&tally);
 }
 
 static void compare_time(const struct trial *trial)
@@ -539,8 +562,10 @@ static void fill_blocks_with_ones(struct trial *trial)
 
 static void copy_other_blocks(struct trial *trial)
 {
-    for (unsigned times = 0; times < 200; times++)
-        memmove(random_block(trial), random_block(trial), PAPER_BLOCK_BYTES);
+    for (unsigned times = 0; times < 200; times++) {
+        const uint8_t *from = random_block(trial);
+        memmove(random_block(trial), from, PAPER_BLOCK_BYTES);
+    }
 }
 
 static void flip_id_bits(struct trial *trial)
@@ -567,7 +592,8 @@ static void lose_sequences(struct trial *trial)
     memset(random_sequence(trial), 0, SEQUENCE_BYTES);
     memset(random_sequence(trial), 0xff, SEQUENCE_BYTES);
     random_bytes(random_sequence(trial), SEQUENCE_BYTES);
-    memmove(random_sequence(trial), random_sequence(trial), SEQUENCE_BYTES);
+    const uint8_t *from = random_sequence(trial);
+    memmove(random_sequence(trial), from, SEQUENCE_BYTES);
 }
 
 /* DIF channel 2 over DIF channel 1. */
@@ -598,7 +624,7 @@ static void randomize_frame(struct trial *trial)
 static const struct {
     const char *name;
     void (*damage)(struct trial *);
-} patterns[] = {
+} block_patterns[] = {
     {"blocks zeroed", zero_blocks},
     {"blocks of ones", fill_blocks_with_ones},
     {"blocks copied over others", copy_other_blocks},
@@ -612,7 +638,7 @@ static const struct {
     {"all random", randomize_frame},
 };
 
-/* A list that holds every fault, one that holds half of them with three entries over, and the first fault by dv100_check. */
+/* A list that holds every fault, and one that holds half of them with three entries over. */
 static void compare_survey(const struct trial *trial, struct tally *tally)
 {
     static uint32_t list[RECORD * MOST_BLOCKS], due[RECORD * MOST_BLOCKS];
@@ -623,8 +649,6 @@ static void compare_survey(const struct trial *trial, struct tally *tally)
         struct dv100_survey said = dv100_survey(trial->system, trial->frame, trial->frame_bytes, list, lengths[run]);
         require_list(tally, said, list, lengths[run], due, total);
     }
-    if (total > 0)
-        require(tally, dv100_check(trial->system, trial->frame, trial->frame_bytes) == due[3], "dv100_check");
     tally->compared = total;
 }
 
@@ -671,34 +695,464 @@ static void compare_views(const struct trial *trial, struct tally *tally)
             }
 }
 
-static void compare_damaged(const struct trial *trial, const char *pattern)
+static void compare_check(const struct trial *trial, struct tally *tally)
 {
-    static const struct {
-        const char *aspect, *things;
-        void (*compare)(const struct trial *, struct tally *);
-    } asked[] = {
-        {"dv100_survey", "faults", compare_survey},
-        {"dv100_survey_sequence", "sequences", compare_survey_sequences},
-        {"dv100_view", "blocks", compare_views},
-        {"dv100_salvage", "positions", compare_salvage},
-    };
-    for (unsigned at = 0; at < sizeof asked / sizeof asked[0]; at++) {
-        struct tally tally = tally_of(asked[at].things, "%s, %u samples, %s, %s", trial->map->system->name, trial->count,
-                                      pattern, asked[at].aspect);
-        asked[at].compare(trial, &tally);
-        print_tally(&tally);
+    unsigned due = paper_judge_frame(trial->map, trial->frame);
+    uint32_t said = dv100_check(trial->system, trial->frame, trial->frame_bytes);
+    tell_answer(tally, said);
+    compare(tally, said == due, "decoder %u, library %u", due, said);
+}
+
+/* Number and count; the samples to the count, and every entry from there on as it was. */
+static void compare_audio_channel(const struct trial *trial, struct tally *tally, unsigned audio_channel)
+{
+    int32_t samples[PAPER_MOST_SAMPLES];
+    unsigned due = paper_judge_audio(trial->map, trial->frame, audio_channel);
+    unsigned count = due ? 0 : paper_count(trial->map, trial->frame, audio_channel);
+    clear_list((uint32_t *)samples, PAPER_MOST_SAMPLES);
+    struct dv100_audio said = dv100_read_audio(trial->system, trial->frame, trial->frame_bytes, audio_channel, samples,
+                                               trial->map->system->samples);
+    tell_answer(tally, said.number);
+    compare(tally, said.number == due && said.count == count, "audio channel %u: decoder %u count %u, library %u count %u",
+            audio_channel, due, count, said.number, said.count);
+    for (unsigned n = 0; n < PAPER_MOST_SAMPLES; n++) {
+        int32_t sample = n < count ? paper_sample(trial->map, trial->frame, audio_channel, n) : UNTOUCHED;
+        require(tally, samples[n] == sample, "audio channel %u sample %u: decoder %d, library %d", audio_channel, n, sample,
+                samples[n]);
+    }
+}
+
+static void compare_audio(const struct trial *trial, struct tally *tally)
+{
+    for (unsigned audio_channel = 1; audio_channel <= PAPER_AUDIO_CHANNELS; audio_channel++)
+        compare_audio_channel(trial, tally, audio_channel);
+}
+
+/* The first macroblock, the last and ten others. */
+static void compare_macroblocks(const struct trial *trial, struct tally *tally)
+{
+    unsigned due = paper_judge_picture(trial->map, trial->frame);
+    unsigned numbers[12] = {0, trial->map->system->macroblocks - 1};
+    for (unsigned at = 2; at < 12; at++)
+        numbers[at] = below(trial->map->system->macroblocks);
+    for (unsigned at = 0; at < 12; at++) {
+        unsigned start = due ? 0 : (unsigned)(paper_macroblock(trial->map, trial->frame, numbers[at]) - trial->frame);
+        struct dv100_part said = dv100_macroblock(trial->system, trial->frame, trial->frame_bytes, numbers[at]);
+        tell_answer(tally, said.number);
+        compare(tally, said.number == due && said.start == start && said.length == (due ? 0 : PAPER_PAYLOAD_BYTES),
+                "macroblock %u: decoder %u at %u, library %u at %u length %u", numbers[at], due, start, said.number,
+                said.start, said.length);
+    }
+}
+
+static void compare_read_time(const struct trial *trial, struct tally *tally)
+{
+    uint8_t time_code[4] = {0}, binary_group[4] = {0};
+    unsigned due = paper_judge_time(trial->map, trial->frame);
+    if (due == 0) {
+        paper_read_time(trial->map, trial->frame, PAPER_TC, time_code);
+        paper_read_time(trial->map, trial->frame, PAPER_BG, binary_group);
+    }
+    struct dv100_time said = dv100_read_time(trial->system, trial->frame, trial->frame_bytes);
+    tell_answer(tally, said.number);
+    compare(tally, said.number == due, "decoder %u, library %u", due, said.number);
+    require(tally, memcmp(said.time_code, time_code, 4) == 0, "time code, refusal %u", due);
+    require(tally, memcmp(said.binary_group, binary_group, 4) == 0, "binary group, refusal %u", due);
+}
+
+/* What a damaged frame is asked: four calls that take it in any state, then four that judge all of it. */
+static const struct {
+    const char *call, *things;
+    void (*compare)(const struct trial *, struct tally *);
+} asked[] = {
+    {"dv100_survey", "faults", compare_survey},
+    {"dv100_survey_sequence", "sequences", compare_survey_sequences},
+    {"dv100_view", "blocks", compare_views},
+    {"dv100_salvage", "positions", compare_salvage},
+    {"dv100_check", "frames", compare_check},
+    {"dv100_read_audio", "audio channels", compare_audio},
+    {"dv100_macroblock", "macroblocks", compare_macroblocks},
+    {"dv100_read_time", "frames", compare_read_time},
+};
+
+enum { ASKED = sizeof asked / sizeof asked[0], FIRST_JUDGING = 4 };
+
+/* How often each call has answered each number on a damaged frame. */
+static unsigned long numbers_met[ASKED][LAST_REFUSAL + 1];
+
+static void start_tallies(const struct trial *trial, const char *pattern, struct tally tallies[ASKED])
+{
+    for (unsigned at = 0; at < ASKED; at++)
+        tallies[at] = tally_of(asked[at].things, "%s, %u samples, %s, %s", trial->map->system->name, trial->count, pattern,
+                               asked[at].call);
+}
+
+static void ask_from(unsigned first, const struct trial *trial, struct tally tallies[ASKED])
+{
+    for (unsigned at = first; at < ASKED; at++)
+        asked[at].compare(trial, &tallies[at]);
+}
+
+static void print_from(unsigned first, const struct tally tallies[ASKED])
+{
+    for (unsigned at = first; at < ASKED; at++) {
+        for (unsigned number = 0; number <= LAST_REFUSAL; number++)
+            numbers_met[at][number] += tallies[at].answered[number];
+        print_tally(&tallies[at]);
+    }
+}
+
+/* The numbers that the judging calls have answered on damaged frames. */
+static void print_numbers_met(void)
+{
+    for (unsigned at = FIRST_JUDGING; at < ASKED; at++) {
+        printf("damaged frames, %s has answered", asked[at].call);
+        for (unsigned number = 0; number <= LAST_REFUSAL; number++)
+            if (numbers_met[at][number] > 0)
+                printf(" %u", number);
+        puts("");
     }
 }
 
 /* Each pattern on a frame of its own. */
-static void damage_and_compare(struct trial *trial)
+static void damage_blocks(struct trial *trial)
 {
-    for (unsigned at = 0; at < sizeof patterns / sizeof patterns[0]; at++) {
+    for (unsigned at = 0; at < sizeof block_patterns / sizeof block_patterns[0]; at++) {
+        struct tally tallies[ASKED];
         random_content(trial);
         write_frame(trial);
-        patterns[at].damage(trial);
-        compare_damaged(trial, patterns[at].name);
+        block_patterns[at].damage(trial);
+        start_tallies(trial, block_patterns[at].name, tallies);
+        ask_from(0, trial, tallies);
+        print_from(0, tallies);
     }
+}
+
+/* ---- damage to what is judged behind the IDs */
+
+/* A DIF sequence of a DIF channel. */
+struct sequence {
+    unsigned dif_channel, dif_sequence;
+};
+
+static struct sequence some_sequence(const struct trial *trial)
+{
+    unsigned at = below(PAPER_DIF_CHANNELS * trial->map->system->dif_sequences);
+    return (struct sequence){at / trial->map->system->dif_sequences, at % trial->map->system->dif_sequences};
+}
+
+/* The byte of the frame that the decoder points at, to be changed. */
+static uint8_t *changing(struct trial *trial, const uint8_t *at)
+{
+    return trial->frame + (at - trial->frame);
+}
+
+static uint8_t *header_of(struct trial *trial, struct sequence of)
+{
+    return trial->frame + paper_block_start(trial->map, (struct paper_id){PAPER_HEADER, of.dif_channel, of.dif_sequence, 0});
+}
+
+static uint8_t *vs_of(struct trial *trial, struct sequence of)
+{
+    return changing(trial, paper_vaux_pack(trial->map, trial->frame, of.dif_channel, of.dif_sequence,
+                                           paper_vs_number(of.dif_sequence)));
+}
+
+static uint8_t *as_of(struct trial *trial, struct sequence of)
+{
+    return changing(trial, paper_aaux_pack(trial->map, trial->frame, of.dif_channel, of.dif_sequence,
+                                           paper_as_number(of.dif_sequence)));
+}
+
+/* The first DIF sequence of an audio channel; dif_sequences / 2 of them follow one another. */
+static struct sequence first_of_audio_channel(const struct trial *trial, unsigned audio_channel)
+{
+    struct sequence first = {0, 0};
+    while (paper_audio_channel(trial->map->system, first.dif_channel, first.dif_sequence) != audio_channel)
+        if (++first.dif_sequence == trial->map->system->dif_sequences)
+            first = (struct sequence){first.dif_channel + 1, 0};
+    return first;
+}
+
+/* Bit 0 is the MSB of the first byte. */
+static void flip(uint8_t *bytes, unsigned bit)
+{
+    bytes[bit / 8] ^= (uint8_t)(0x80 >> bit % 8);
+}
+
+static void flip_id_bit(struct trial *trial, unsigned step)
+{
+    flip(random_block(trial), step);
+}
+
+static void flip_header_bit(struct trial *trial, unsigned step)
+{
+    flip(header_of(trial, some_sequence(trial)) + 3, step);
+}
+
+static void flip_vs_bit(struct trial *trial, unsigned step)
+{
+    flip(vs_of(trial, some_sequence(trial)), step);
+}
+
+static void flip_excused_vs_bit(struct trial *trial, unsigned step)
+{
+    struct sequence of = some_sequence(trial);
+    header_of(trial, of)[6] |= 0x80;
+    flip(vs_of(trial, of), step);
+}
+
+static void flip_vs_bit_excuse_another(struct trial *trial, unsigned step)
+{
+    struct sequence of = some_sequence(trial), another = of;
+    another.dif_channel = (of.dif_channel + 1) % PAPER_DIF_CHANNELS;
+    header_of(trial, another)[6] |= 0x80;
+    flip(vs_of(trial, of), step);
+}
+
+static void flip_as_bit(struct trial *trial, unsigned step)
+{
+    flip(as_of(trial, some_sequence(trial)), step);
+}
+
+static void set_af_size(uint8_t as[PAPER_PACK_BYTES], unsigned code)
+{
+    as[1] = (uint8_t)((as[1] & 0xc0) | code);
+}
+
+static void change_af_size(struct trial *trial, unsigned step)
+{
+    set_af_size(as_of(trial, some_sequence(trial)), step);
+}
+
+static void change_all_af_sizes(struct trial *trial, unsigned step)
+{
+    struct sequence of = first_of_audio_channel(trial, 1 + step % PAPER_AUDIO_CHANNELS);
+    for (unsigned times = 0; times < trial->map->system->dif_sequences / 2; times++, of.dif_sequence++)
+        set_af_size(as_of(trial, of), step);
+}
+
+static void change_audio_mode(struct trial *trial, unsigned step)
+{
+    uint8_t *as = as_of(trial, some_sequence(trial));
+    as[2] = (uint8_t)((as[2] & 0xf0) | step);
+}
+
+/* The first AS of an audio channel with the count that the frame has not (60 Hz), the last one with another header. */
+static void change_count_and_header(struct trial *trial, unsigned step)
+{
+    struct sequence of = first_of_audio_channel(trial, 1 + step);
+    if (!trial->map->system->is_50_hz)
+        flip(as_of(trial, of), 8 + 6);
+    of.dif_sequence += trial->map->system->dif_sequences / 2 - 1;
+    as_of(trial, of)[0] ^= 1;
+}
+
+/* The pack of an SSYB. */
+static uint8_t *ssyb_pack(struct trial *trial, struct sequence of, unsigned ssyb)
+{
+    return changing(trial, paper_ssyb(trial->map, trial->frame, of.dif_channel, of.dif_sequence, ssyb)) + 3;
+}
+
+/* Some pack that Table 10 has so, but not those of DIF channel 0, sequence 0, SSYB 3 and 4. */
+static uint8_t *some_other_pack(struct trial *trial, enum paper_ssyb_pack kind)
+{
+    for (;;) {
+        struct sequence of = some_sequence(trial);
+        unsigned ssyb = below(PAPER_SSYBS);
+        int first = of.dif_channel == 0 && of.dif_sequence == 0 && (ssyb == 3 || ssyb == 4);
+        if (!first && paper_table_10(trial->map->system, of.dif_sequence, ssyb) == kind)
+            return ssyb_pack(trial, of, ssyb);
+    }
+}
+
+static void flip_first_time_code(struct trial *trial, unsigned step)
+{
+    flip(ssyb_pack(trial, (struct sequence){0, 0}, 3), step);
+}
+
+static void flip_first_binary_group(struct trial *trial, unsigned step)
+{
+    flip(ssyb_pack(trial, (struct sequence){0, 0}, 4), step);
+}
+
+static void flip_other_time_code(struct trial *trial, unsigned step)
+{
+    flip(some_other_pack(trial, PAPER_TC), step);
+}
+
+static void flip_other_binary_group(struct trial *trial, unsigned step)
+{
+    flip(some_other_pack(trial, PAPER_BG), step);
+}
+
+static void flip_reserved_ssyb(struct trial *trial, unsigned step)
+{
+    flip(some_other_pack(trial, PAPER_RESERVED), step);
+}
+
+static void flip_ssyb_id(struct trial *trial, unsigned step)
+{
+    struct sequence of = some_sequence(trial);
+    flip(ssyb_pack(trial, of, below(PAPER_SSYBS)) - 3, step);
+}
+
+/* One byte of PC1 to PC4 the same in every time code pack. */
+static void change_all_time_codes(struct trial *trial, unsigned byte, uint8_t value)
+{
+    for (unsigned dif_channel = 0; dif_channel < PAPER_DIF_CHANNELS; dif_channel++)
+        for (unsigned dif_sequence = 0; dif_sequence < trial->map->system->dif_sequences; dif_sequence++)
+            for (unsigned ssyb = 0; ssyb < PAPER_SSYBS; ssyb++)
+                if (paper_table_10(trial->map->system, dif_sequence, ssyb) == PAPER_TC)
+                    ssyb_pack(trial, (struct sequence){dif_channel, dif_sequence}, ssyb)[1 + byte] = value;
+}
+
+/* Bits of a byte that are not in the mask, at random. */
+static void scramble(uint8_t *byte, unsigned kept)
+{
+    *byte = (uint8_t)((*byte & kept) | (below(256) & ~kept));
+}
+
+/* Bytes from PC0 of a pack on, each with its own kept bits. */
+static void scramble_pack(uint8_t *pack, const uint8_t kept[PAPER_PACK_BYTES])
+{
+    for (unsigned at = 0; at < PAPER_PACK_BYTES; at++)
+        scramble(pack + at, kept[at]);
+}
+
+/* The bits of header, subcode, VAUX and AAUX of a sequence that are not judged. */
+static void scramble_sequence(struct trial *trial, struct sequence of)
+{
+    static const uint8_t header[PAPER_PACK_BYTES] = {0x80, 0, 0x80, 0x80, 0x80}, none[PAPER_PACK_BYTES] = {0};
+    static const uint8_t vs[PAPER_PACK_BYTES] = {0xff, 0, 0, 0x3f, 0}, as[PAPER_PACK_BYTES] = {0xff, 0xbf, 0xef, 0x3f, 0x3f};
+    scramble_pack(header_of(trial, of) + 3, header);
+    random_bytes(header_of(trial, of) + 8, PAPER_BLOCK_BYTES - 8);
+    for (unsigned ssyb = 0; ssyb < PAPER_SSYBS; ssyb++) {
+        uint8_t *pack = ssyb_pack(trial, of, ssyb);
+        random_bytes(pack - 3, 3);
+        if (paper_table_10(trial->map->system, of.dif_sequence, ssyb) == PAPER_RESERVED)
+            random_bytes(pack, PAPER_PACK_BYTES);
+    }
+    for (unsigned pack = 0; pack < 45; pack++)
+        scramble_pack(changing(trial, paper_vaux_pack(trial->map, trial->frame, of.dif_channel, of.dif_sequence, pack)),
+                      pack == paper_vs_number(of.dif_sequence) ? vs : none);
+    for (unsigned pack = 0; pack < 9; pack++)
+        scramble_pack(changing(trial, paper_aaux_pack(trial->map, trial->frame, of.dif_channel, of.dif_sequence, pack)),
+                      pack == paper_as_number(of.dif_sequence) ? as : none);
+}
+
+/* All of a DIF channel that is not judged, the other bits of its IDs too. */
+static void scramble_dif_channel(struct trial *trial, unsigned dif_channel)
+{
+    for (unsigned dif_sequence = 0; dif_sequence < trial->map->system->dif_sequences; dif_sequence++) {
+        scramble_sequence(trial, (struct sequence){dif_channel, dif_sequence});
+        for (unsigned place = 0; place < PAPER_PLACES; place++) {
+            uint8_t *id = trial->frame + paper_place_start(trial->map->system, dif_channel, dif_sequence, place);
+            scramble(id, 0xe0);
+            scramble(id + 1, 0xfc);
+        }
+    }
+}
+
+/* Each step on the frame as it was written. */
+static const struct {
+    const char *name;
+    unsigned steps;
+    void (*damage)(struct trial *, unsigned step);
+} judged_patterns[] = {
+    {"a bit of an ID flipped", 24, flip_id_bit},
+    {"a bit of a header's bytes 3 to 7 flipped", 40, flip_header_bit},
+    {"a bit of a VS flipped", 40, flip_vs_bit},
+    {"a bit of a VS flipped, its TF2 set", 40, flip_excused_vs_bit},
+    {"a bit of a VS flipped, another's TF2 set", 40, flip_vs_bit_excuse_another},
+    {"a bit of an AS flipped", 40, flip_as_bit},
+    {"every AF size in an AS", 64, change_af_size},
+    {"every AF size in all AS of an audio channel", 64, change_all_af_sizes},
+    {"every audio mode in an AS", 16, change_audio_mode},
+    {"an AS with another count, an AS with another header", 8, change_count_and_header},
+    {"a bit of the first time code flipped", 40, flip_first_time_code},
+    {"a bit of the first binary group flipped", 40, flip_first_binary_group},
+    {"a bit of another time code flipped", 40, flip_other_time_code},
+    {"a bit of another binary group flipped", 40, flip_other_binary_group},
+    {"a bit of a reserved SSYB flipped", 40, flip_reserved_ssyb},
+    {"a bit of an SSYB ID flipped", 24, flip_ssyb_id},
+    {"all that is not judged in a DIF channel at random", PAPER_DIF_CHANNELS, scramble_dif_channel},
+};
+
+enum { JUDGED_PATTERNS = sizeof judged_patterns / sizeof judged_patterns[0] };
+
+static uint8_t undamaged[MOST_FRAME];
+
+static void write_undamaged(struct trial *trial)
+{
+    random_content(trial);
+    write_frame(trial);
+    memcpy(undamaged, trial->frame, trial->frame_bytes);
+}
+
+static void damage_judged(struct trial *trial)
+{
+    for (unsigned at = 0; at < JUDGED_PATTERNS; at++) {
+        struct tally tallies[ASKED];
+        write_undamaged(trial);
+        start_tallies(trial, judged_patterns[at].name, tallies);
+        for (unsigned step = 0; step < judged_patterns[at].steps; step++) {
+            memcpy(trial->frame, undamaged, trial->frame_bytes);
+            judged_patterns[at].damage(trial, step);
+            ask_from(FIRST_JUDGING, trial, tallies);
+        }
+        print_from(FIRST_JUDGING, tallies);
+    }
+}
+
+/* Bit flips that a number is given for: a DBN, DSF, VS PC0, TF1, TF2, TF3, AS PC0, AF size (25 at 60 Hz), PC0 of the first time
+ * code and of another. */
+static const struct {
+    void (*damage)(struct trial *, unsigned step);
+    unsigned step;
+} causes[] = {
+    {flip_id_bit, 23},     {flip_header_bit, 0}, {flip_vs_bit, 0},  {flip_header_bit, 16},     {flip_header_bit, 24},
+    {flip_header_bit, 32}, {flip_as_bit, 0},     {flip_as_bit, 14}, {flip_first_time_code, 0}, {flip_other_time_code, 0},
+};
+
+enum { CAUSES = sizeof causes / sizeof causes[0] };
+
+/* Every two causes on one frame, for the order of the numbers. */
+static void damage_in_pairs(struct trial *trial)
+{
+    struct tally tallies[ASKED];
+    write_undamaged(trial);
+    start_tallies(trial, "every two causes of a refusal", tallies);
+    for (unsigned one = 0; one < CAUSES; one++)
+        for (unsigned other = 0; other < one; other++) {
+            memcpy(trial->frame, undamaged, trial->frame_bytes);
+            causes[one].damage(trial, causes[one].step);
+            causes[other].damage(trial, causes[other].step);
+            ask_from(FIRST_JUDGING, trial, tallies);
+        }
+    print_from(FIRST_JUDGING, tallies);
+}
+
+/* Every value of each byte of the time code, the same in all its packs. */
+static void compare_every_time_code_byte(struct trial *trial)
+{
+    struct tally tally = tally_of_trial(trial, "frames", "every byte in all time codes, dv100_read_time");
+    write_undamaged(trial);
+    for (unsigned byte = 0; byte < 4; byte++)
+        for (unsigned value = 0; value < 256; value++) {
+            change_all_time_codes(trial, byte, (uint8_t)value);
+            compare_read_time(trial, &tally);
+            change_all_time_codes(trial, byte, trial->time_code[byte]);
+        }
+    print_tally(&tally);
+}
+
+static void damage_and_compare(struct trial *trial)
+{
+    damage_blocks(trial);
+    damage_judged(trial);
+    damage_in_pairs(trial);
+    compare_every_time_code_byte(trial);
 }
 
 /* ---- 3. the known places of document 01 */
@@ -963,7 +1417,7 @@ static int holds_some_segment(const struct paper_map *map, struct paper_video_pl
 static void compare_segments(unsigned system)
 {
     const struct paper_map *map = &maps[system];
-    struct tally tally = tally_of("segments", "%s, § 4.1.6 and § 3.7.2.1", map->system->name);
+    struct tally tally = tally_of("segments", "%s, the decoder alone, § 4.1.6 and § 3.7.2.1", map->system->name);
     for (unsigned h = 0; h < PAPER_DIF_CHANNELS; h++)
         for (unsigned dsn = 0; dsn < map->system->dif_sequences; dsn++)
             for (unsigned dbn = 0; dbn < PAPER_VIDEO_BLOCKS; dbn += 5)
@@ -1035,5 +1489,6 @@ int main(void)
         compare_known(&trial);
     }
     compare_printed(&trial);
+    print_numbers_met();
     return lines_that_differ > 0;
 }

@@ -43,10 +43,14 @@ unsigned paper_place_start(const struct paper_system *system, unsigned dif_chann
 /* The place that has this section and DBN in figure 3; 0 if none has. */
 static unsigned place_of(const struct paper_map *map, unsigned section, unsigned dbn)
 {
+    return dbn < PAPER_VIDEO_BLOCKS ? map->place[section][dbn] : 0;
+}
+
+static void build_places(struct paper_map *map)
+{
+    memset(map->place, 0, sizeof map->place);
     for (unsigned place = 0; place < PAPER_PLACES; place++)
-        if (map->figure_3[place].section == section && map->figure_3[place].dbn == dbn)
-            return place;
-    return 0;
+        map->place[map->figure_3[place].section][map->figure_3[place].dbn] = place;
 }
 
 unsigned paper_block_start(const struct paper_map *map, struct paper_id id)
@@ -421,18 +425,31 @@ enum paper_ssyb_pack paper_table_10(const struct paper_system *system, unsigned 
 }
 
 /* Tables 11 and 12: PC0 is 13h for the time code, 14h for the binary group. */
+static unsigned time_header(enum paper_ssyb_pack kind)
+{
+    return kind == PAPER_TC ? 0x13 : 0x14;
+}
+
+/* Table 11: in the 50-Hz system bit 6 of PC1 is arbitrary. */
+static unsigned arbitrary_bits(const struct paper_system *system, enum paper_ssyb_pack kind)
+{
+    return kind == PAPER_TC && system->is_50_hz ? 0x40 : 0;
+}
+
 unsigned paper_read_time(const struct paper_map *map, const uint8_t *frame, enum paper_ssyb_pack kind, uint8_t pc[4])
 {
-    unsigned packs = 0;
+    unsigned packs = 0, arbitrary = arbitrary_bits(map->system, kind);
     for (unsigned i = 0; i < PAPER_DIF_CHANNELS; i++)
         for (unsigned dseq = 0; dseq < map->system->dif_sequences; dseq++)
             for (unsigned ssyb = 0; ssyb < PAPER_SSYBS; ssyb++) {
                 if (paper_table_10(map->system, dseq, ssyb) != kind)
                     continue;
                 const uint8_t *pack = paper_ssyb(map, frame, i, dseq, ssyb) + 3;
-                if (packs++ == 0)
+                if (packs++ == 0) {
                     memcpy(pc, pack + 1, 4);
-                if (pack[0] != (kind == PAPER_TC ? 0x13 : 0x14) || memcmp(pc, pack + 1, 4) != 0)
+                    pc[0] |= (uint8_t)arbitrary;
+                }
+                if (pack[0] != time_header(kind) || (pack[1] | arbitrary) != pc[0] || memcmp(pc + 1, pack + 2, 3) != 0)
                     return 0;
             }
     return packs;
@@ -460,10 +477,143 @@ void paper_vs(const struct paper_system *system, uint8_t pack[PAPER_PACK_BYTES])
     pack[3] = (uint8_t)(0xc0 | system->is_50_hz << 5 | system->stype);
 }
 
+/* ---- judgements, by document 01's table of refusals */
+
+/* Table 7: the MSB of a header's byte; DSF in byte 3, TF1 to TF3 in bytes 5 to 7. */
+static unsigned header_msb(const struct paper_map *map, const uint8_t *frame, unsigned dif_channel, unsigned dif_sequence,
+                           unsigned byte)
+{
+    return frame[paper_block_start(map, (struct paper_id){PAPER_HEADER, dif_channel, dif_sequence, 0}) + byte] >> 7;
+}
+
+static int some_header_has(const struct paper_map *map, const uint8_t *frame, unsigned byte, unsigned msb)
+{
+    for (unsigned i = 0; i < PAPER_DIF_CHANNELS; i++)
+        for (unsigned dseq = 0; dseq < map->system->dif_sequences; dseq++)
+            if (header_msb(map, frame, i, dseq, byte) == msb)
+                return 1;
+    return 0;
+}
+
+/* The number of the first block in stream order that does not name its place. */
+static unsigned first_fault(const struct paper_map *map, const uint8_t *frame)
+{
+    for (unsigned i = 0; i < PAPER_DIF_CHANNELS; i++)
+        for (unsigned dseq = 0; dseq < map->system->dif_sequences; dseq++)
+            for (unsigned place = 0; place < PAPER_PLACES; place++) {
+                unsigned fault = paper_fault(map, frame, i, dseq, place);
+                if (fault)
+                    return fault;
+            }
+    return 0;
+}
+
+/* Table 14: 60h, 50/60 and STYPE. */
+static int vs_agrees(const struct paper_system *system, const uint8_t vs[PAPER_PACK_BYTES])
+{
+    return vs[0] == 0x60 && (vs[3] >> 5 & 1) == system->is_50_hz && (vs[3] & 0x1f) == system->stype;
+}
+
+/* Whether some VS disagrees in a DIF sequence whose own header has TF2 0. */
+static int some_vs_disagrees(const struct paper_map *map, const uint8_t *frame)
+{
+    for (unsigned i = 0; i < PAPER_DIF_CHANNELS; i++)
+        for (unsigned dseq = 0; dseq < map->system->dif_sequences; dseq++)
+            if (header_msb(map, frame, i, dseq, 6) == 0 &&
+                !vs_agrees(map->system, paper_vaux_pack(map, frame, i, dseq, paper_vs_number(dseq))))
+                return 1;
+    return 0;
+}
+
+unsigned paper_judge_frame(const struct paper_map *map, const uint8_t *frame)
+{
+    unsigned fault = first_fault(map, frame);
+    if (fault)
+        return fault;
+    if (some_header_has(map, frame, 3, !map->system->is_50_hz))
+        return 21;
+    return some_vs_disagrees(map, frame) ? 22 : 0;
+}
+
+static int is_count_of(const struct paper_system *system, unsigned count)
+{
+    return count != 0 && (count == system->counts[0] || count == system->counts[1]);
+}
+
+/* Table 19: LF, AF SIZE; the zero above CHN, CHN, AUDIO MODE; 50/60, STYPE; SMP, QU. */
+static int as_agrees(const struct paper_system *system, unsigned audio_channel, const uint8_t as[PAPER_PACK_BYTES])
+{
+    unsigned audio_mode = audio_channel % 2 == 1 ? 0 : 1;
+    return as[0] == 0x50 && as[1] >> 7 == 0 && is_count_of(system, count_of_af_size(as[1] & 0x3f)) && as[2] >> 5 == 0 &&
+           (as[2] & 0xf) == audio_mode && (as[3] >> 5 & 1) == system->is_50_hz && (as[3] & 0x1f) == 0x03 &&
+           (as[4] & 0x3f) == 0;
+}
+
+static int some_as_disagrees(const struct paper_map *map, const uint8_t *frame, unsigned audio_channel)
+{
+    for (unsigned i = 0; i < PAPER_DIF_CHANNELS; i++)
+        for (unsigned dseq = 0; dseq < map->system->dif_sequences; dseq++)
+            if (paper_audio_channel(map->system, i, dseq) == audio_channel &&
+                !as_agrees(map->system, audio_channel, paper_aaux_pack(map, frame, i, dseq, paper_as_number(dseq))))
+                return 1;
+    return 0;
+}
+
+unsigned paper_judge_audio(const struct paper_map *map, const uint8_t *frame, unsigned audio_channel)
+{
+    unsigned refusal = paper_judge_frame(map, frame);
+    if (refusal)
+        return refusal;
+    if (some_header_has(map, frame, 5, 1))
+        return 23;
+    if (some_as_disagrees(map, frame, audio_channel))
+        return 24;
+    return paper_count(map, frame, audio_channel) == 0 ? 25 : 0;
+}
+
+unsigned paper_judge_picture(const struct paper_map *map, const uint8_t *frame)
+{
+    unsigned refusal = paper_judge_frame(map, frame);
+    if (refusal)
+        return refusal;
+    return some_header_has(map, frame, 6, 1) ? 23 : 0;
+}
+
+/* Units in bits 3-0, above them as many bits of tens as the mask has. */
+static int is_number_to(unsigned most, unsigned pc, unsigned tens_mask)
+{
+    unsigned units = pc & 0xf, tens = pc >> 4 & tens_mask;
+    return units <= 9 && 10 * tens + units <= most;
+}
+
+/* Table 11: frames, seconds, minutes, hours. */
+static int are_digits(const struct paper_system *system, const uint8_t pc[4])
+{
+    return is_number_to(system->is_50_hz ? 24 : 29, pc[0], 3) && is_number_to(59, pc[1], 7) && is_number_to(59, pc[2], 7) &&
+           is_number_to(23, pc[3], 3);
+}
+
+unsigned paper_judge_time(const struct paper_map *map, const uint8_t *frame)
+{
+    const uint8_t *tc = paper_ssyb(map, frame, 0, 0, 3) + 3, *bg = paper_ssyb(map, frame, 0, 0, 4) + 3;
+    uint8_t pc[4];
+    unsigned refusal = paper_judge_frame(map, frame);
+    if (refusal)
+        return refusal;
+    if (some_header_has(map, frame, 7, 1))
+        return 23;
+    if (tc[0] != time_header(PAPER_TC) || bg[0] != time_header(PAPER_BG) || !are_digits(map->system, tc + 1))
+        return 26;
+    return paper_read_time(map, frame, PAPER_TC, pc) == 0 || paper_read_time(map, frame, PAPER_BG, pc) == 0 ? 27 : 0;
+}
+
+/* ---- */
+
 void paper_build(struct paper_map *map, unsigned system)
 {
     map->system = &systems[system];
     build_figure_3(map->figure_3);
+    build_places(map);
     build_samples(map);
     build_picture(map);
 }

@@ -1,8 +1,14 @@
 /* A decoder of DIF frames of the 100 Mbit/s DV family, written from Recommendation ITU-R BT.1620-1 and from nothing of the
  * library. The Recommendation's rules are run once, forward, and the places they name are kept in maps.
  *
- * § and Table numbers and the letters h, i, j, k, n, s, t are the Recommendation's. Its drawings are lost; what they show, and
- * how macroblocks are numbered, is taken from the scope paper, document 01. DIF channels are 0 to 3, audio channels 1 to 8. */
+ * § and Table numbers and the letters h, i, j, k, n, s, t are the Recommendation's. DIF channels are 0 to 3, audio channels 1
+ * to 8. Taken from the scope paper, document 01, and not from the Recommendation:
+ * - what the lost drawings show: figures 2 and 3 (the places of blocks), 4 (of SSYBs), 6 (of VAUX packs), 9 (of AAUX packs);
+ * - the numbers of macroblocks;
+ * - 32,768 for a lost sample, and the zeros that are written from the count on;
+ * - fault and refusal numbers, what each is given for, their order, and which bits are judged;
+ * - bit 6 of the time code's PC1 at 50 Hz, which is not compared and is answered as 1;
+ * - FFh as PC4 of VS; VSC and ASC as a header and four FFh. */
 #ifndef PAPER_H
 #define PAPER_H
 
@@ -66,6 +72,7 @@ struct paper_video_place {
 struct paper_map {
     const struct paper_system *system;
     struct paper_id figure_3[PAPER_PLACES]; /* section and DBN of each place; the other two are 0 */
+    unsigned place[PAPER_RESERVED_FROM][PAPER_VIDEO_BLOCKS]; /* by section and DBN; 0 where figure 3 has none */
     struct paper_sample_place sample[PAPER_AUDIO_CHANNELS + 1][PAPER_MOST_SAMPLES]; /* by audio channel; row 0 is unused */
     int macroblock_of[PAPER_DIF_CHANNELS][PAPER_MOST_SEQUENCES][PAPER_VIDEO_BLOCKS];
     struct paper_video_place video_place[PAPER_MOST_MACROBLOCKS];
@@ -116,7 +123,8 @@ const uint8_t *paper_ssyb(const struct paper_map *map, const uint8_t *frame, uns
                           unsigned ssyb);
 enum paper_ssyb_pack paper_table_10(const struct paper_system *system, unsigned dif_sequence, unsigned ssyb);
 
-/* PC1 to PC4 of the time code or binary group packs, and how many packs hold them; 0 if one has another header or differs. */
+/* PC1 to PC4 of the first time code or binary group pack as they are answered, and how many packs of the frame are the same;
+ * 0 if one differs. */
 unsigned paper_read_time(const struct paper_map *map, const uint8_t *frame, enum paper_ssyb_pack kind, uint8_t pc[4]);
 
 /* What SSYB ID0's FR (bit 7) is in a DIF sequence: Table 8. */
@@ -138,5 +146,12 @@ void paper_as(const struct paper_system *system, unsigned audio_channel, unsigne
 
 /* The audio channel whose samples a DIF sequence carries. */
 unsigned paper_audio_channel(const struct paper_system *system, unsigned dif_channel, unsigned dif_sequence);
+
+/* The refusal that document 01 gives to a whole frame, 0 for none: of the frame check, of the reading of an audio channel, of
+ * any macroblock, of the time. */
+unsigned paper_judge_frame(const struct paper_map *map, const uint8_t *frame);
+unsigned paper_judge_audio(const struct paper_map *map, const uint8_t *frame, unsigned audio_channel);
+unsigned paper_judge_picture(const struct paper_map *map, const uint8_t *frame);
+unsigned paper_judge_time(const struct paper_map *map, const uint8_t *frame);
 
 #endif
