@@ -9,7 +9,7 @@ trap 'rm -rf "$work"' EXIT
 perl tests/fallen.pl >"$work/fallen"
 status=$?
 [ "$status" -eq 0 ] || echo "fallen: tests/fallen.pl has ended with $status"
-awk '/^## What each edit breaks/ { on = 1 } on && /^\| [a-z_]+ `/' docs/PROMISES.md >"$work/said"
+awk '/^## What each edit breaks/ { on = 1 } on && /^\| [a-z_0-9]+ `/' docs/PROMISES.md >"$work/said"
 rows=$(($(wc -l <"$work/said")))
 if diff "$work/said" "$work/fallen"; then differ=0; else differ=1; fi
 
