@@ -1,5 +1,6 @@
 /* speed: what the ten calls cost, library and plain.c side by side in one process. scripts/measure runs it.
  *
+ *   speed rows                  a line for each row: its number, call and system
  *   speed time                  a line for each row: its number, call, system, nanoseconds a call of library and plain C
  *   speed count ROW SIDE TIMES  asks a row's call TIMES times in `counted`, for a counter of instructions; side 0 library, 1 plain
  */
@@ -192,7 +193,10 @@ static void time_row(size_t row)
 int main(int argc, char **argv)
 {
     fill();
-    if (argc == 2 && strcmp(argv[1], "time") == 0) {
+    if (argc == 2 && strcmp(argv[1], "rows") == 0) {
+        for (size_t row = 0; row < ROWS; row++)
+            printf("%zu\t%s\t%u\n", row, calls[row % CALLS].name, systems[row / CALLS].system);
+    } else if (argc == 2 && strcmp(argv[1], "time") == 0) {
         for (size_t row = 0; row < ROWS; row++)
             time_row(row);
     } else if (argc == 5 && strcmp(argv[1], "count") == 0) {
@@ -201,7 +205,7 @@ int main(int argc, char **argv)
         calls[row % CALLS].ask[side]();
         counted(calls[row % CALLS].ask[side], (uint32_t)strtoul(argv[4], NULL, 10));
     } else {
-        fprintf(stderr, "usage: speed time | speed count ROW SIDE TIMES\n");
+        fprintf(stderr, "usage: speed rows | speed time | speed count ROW SIDE TIMES\n");
         return 2;
     }
     return 0;
