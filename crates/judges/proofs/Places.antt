@@ -26,7 +26,7 @@ use Rattle.rules.proofs.Systems.{sequences-le, half-twice}
 use Rattle.rules.proofs.Places.{place-in-below, place-for}
 use Rattle.rules.proofs.Vaux.{vs-below}
 use Rattle.rules.proofs.Aaux.{as-below}
-use Rattle.judges.specs.Asked.{partAt, Low, Start, PackAsked, FirstRow}
+use Rattle.judges.specs.Asked.{sequenceFrom, Low, Start, PackAsked, FirstRow}
 
 -- ---- sequences
 
@@ -37,8 +37,8 @@ module _ (y : System) (h q : ℕ) where
   pub start-way : (n : ℕ) → n ≡ sequencesOf y → h < 4294967296 → q < 4294967296 → Start y h q ((n * h + q) * 12000)
   start-way n e lh lq = record { is = rw e refl; room = record { low = omega (arith, start-le n e) } }
 
-  pub start-is : (frame : List ℕ) (at : ℕ) → Start y h q at → partAt frame at ≡ sequenceAt y frame h q
-  unfolding partAt sequenceAt
+  pub start-is : (frame : List ℕ) (at : ℕ) → Start y h q at → sequenceFrom frame at ≡ sequenceAt y frame h q
+  unfolding sequenceFrom sequenceAt
   start-is frame at s = rw (s .is) refl
 
 half-le : (y : System) → halfOf y ≤ 6
@@ -55,34 +55,34 @@ row-way y s c e =
 -- ---- bytes
 
 module _ (frame : List ℕ) (at : ℕ) where
-  pub block-byte : (p i : ℕ) → p < 150 → i < 80 → getD frame (at + p * 80 + i) 0 ≡ getD (blockIn (partAt frame at) p) i 0
-  unfolding blockIn partAt
+  pub block-byte : (p i : ℕ) → p < 150 → i < 80 → getD frame (at + p * 80 + i) 0 ≡ getD (blockIn (sequenceFrom frame at) p) i 0
+  unfolding blockIn sequenceFrom
   block-byte p i hp hi =
       sym
       (ap (λ (l : List ℕ). getD l i 0) (part-part at 12000 (p * 80) 80 frame (omega arith))
       ∙ getD-take 80 (drop (at + p * 80) frame) i 0 hi
       ∙ getD-drop (at + p * 80) frame i 0)
 
-  pub header-way : (p : Place) (i r : ℕ) → p ≡ placeFor Header (record { 0 = 0 }) → i < 80 → r ≡ getD frame (at + p .0 * 80 + i) 0 → r ≡ getD (headerIn (partAt frame at)) i 0
+  pub header-way : (p : Place) (i r : ℕ) → p ≡ placeFor Header (record { 0 = 0 }) → i < 80 → r ≡ getD frame (at + p .0 * 80 + i) 0 → r ≡ getD (headerIn (sequenceFrom frame at)) i 0
   header-way p i r ep h e =
       let there : p ≡ place 0 = ep ∙ place-for Header _ (omega arith) in
       e ∙ rw there (block-byte 0 i (omega arith) h)
 
-  pub header-past : (i : ℕ) → 80 ≤ i → 0 ≡ getD (headerIn (partAt frame at)) i 0
+  pub header-past : (i : ℕ) → 80 ≤ i → 0 ≡ getD (headerIn (sequenceFrom frame at)) i 0
   unfolding blockIn
   header-past i h =
-      let part = drop (0 * 80) (partAt frame at) in
+      let part = drop (0 * 80) (sequenceFrom frame at) in
       sym (List·getD-eq-default (take 80 part) 0 (omega (arith, length-take 80 part)))
 
   module _ (p : Place) (i : ℕ) (asked : PackAsked at p i) where
-    pack-byte : (j : ℕ) → j < 5 → getD frame (at + p .0 * 80 + i + j) 0 ≡ getD (blockIn (partAt frame at) (p .0)) (i + j) 0
+    pack-byte : (j : ℕ) → j < 5 → getD frame (at + p .0 * 80 + i + j) 0 ≡ getD (blockIn (sequenceFrom frame at) (p .0)) (i + j) 0
     pack-byte j h =
         ap (λ (k : ℕ). getD frame k 0) (add-assoc (at + p .0 * 80) i j)
         ∙ block-byte (p .0) (i + j) (asked .place) (omega (arith, asked .within))
 
     module _ (b0 b1 b2 b3 b4 : ℕ) where
       pub pack-way : b0 ≡ getD frame (at + p .0 * 80 + i) 0 → b1 ≡ getD frame (at + p .0 * 80 + i + 1) 0 → b2 ≡ getD frame (at + p .0 * 80 + i + 2) 0 → b3 ≡ getD frame (at + p .0 * 80 + i + 3) 0 → b4 ≡ getD frame (at + p .0 * 80 + i + 4) 0
-          → record { pc0 = b0; pc1 = b1; pc2 = b2; pc3 = b3; pc4 = b4 } ≡ packIn (blockIn (partAt frame at) (p .0)) i
+          → record { pc0 = b0; pc1 = b1; pc2 = b2; pc3 = b3; pc4 = b4 } ≡ packIn (blockIn (sequenceFrom frame at) (p .0)) i
       pack-way e0 e1 e2 e3 e4 =
           rw (
             e0 ∙ block-byte (p .0) i (asked .place) (omega (arith, asked .within)),

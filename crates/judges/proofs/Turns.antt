@@ -18,7 +18,7 @@ use Rattle.rules.specs.Sound.{difOf}
 use Rattle.rules.specs.Time.{ssybIn, packAgrees, subcodeAgrees}
 use Rattle.rules.proofs.Systems.{sequences-le, half-twice}
 use Rattle.judges.specs.declared.Test.{Test}
-use Rattle.judges.specs.Asked.{partAt, Start, FirstRow, RowsAsked}
+use Rattle.judges.specs.Asked.{sequenceFrom, Start, FirstRow, RowsAsked}
 use Rattle.judges.specs.Tests.{testOf}
 use Rattle.judges.proofs.Places.{start-is}
 
@@ -48,7 +48,7 @@ unfolding everyFrom
 start-holds y frame h q test = refl
 
 module _ (y : System) (frame : List ℕ) (test : Test) (h q r : ℕ) (good : Bool) (so-far : good ≡ everyFrom y frame h q r (testOf y test)) where
-  pub row-turn : (at : ℕ) (x : Bool) → Start y h (q + r) at → x ≡ testOf y test (q + r) (partAt frame at)
+  pub row-turn : (at : ℕ) (x : Bool) → Start y h (q + r) at → x ≡ testOf y test (q + r) (sequenceFrom frame at)
       → (x && good) ≡ everyFrom y frame h q (r + 1) (testOf y test)
   unfolding everyFrom
   row-turn at x s ex =

@@ -22,7 +22,7 @@ use Rattle.rules.specs.Sound.{difOf}
 use Rattle.rules.specs.Time.{ssybIn, timeFirst, groupFirst, withBit6, settled, samePack, packAgrees, subcodeAgrees}
 use Rattle.judges.specs.declared.Test.{Test}
 use Rattle.judges.specs.declared.Test.the-variants.{Dsf, Vs, Unflagged, AsKeeps, CountIs, Subcode}
-use Rattle.judges.specs.Asked.{partAt, Start, FirstRow}
+use Rattle.judges.specs.Asked.{sequenceFrom, Start, FirstRow}
 use Rattle.judges.specs.Tests.{testOf}
 use Rattle.judges.proofs.Places.{start-is}
 
@@ -89,15 +89,15 @@ module _ (y : System) (time group : Pack) (kind : SubcodePack) (k : ℕ) (part :
 -- ---- the packs that come first
 
 module _ (y : System) (frame : List ℕ) (at : ℕ) where
-  pub time-way : (p : Pack) → Start y 0 0 at → p ≡ ssybIn 3 (partAt frame at) → p ≡ timeFirst y frame
+  pub time-way : (p : Pack) → Start y 0 0 at → p ≡ ssybIn 3 (sequenceFrom frame at) → p ≡ timeFirst y frame
   unfolding timeFirst
   time-way p s e = e ∙ ap (ssybIn 3) (start-is y 0 0 frame at s)
 
-  pub group-way : (p : Pack) → Start y 0 0 at → p ≡ ssybIn 4 (partAt frame at) → p ≡ groupFirst y frame
+  pub group-way : (p : Pack) → Start y 0 0 at → p ≡ ssybIn 4 (sequenceFrom frame at) → p ≡ groupFirst y frame
   unfolding groupFirst
   group-way p s e = e ∙ ap (ssybIn 4) (start-is y 0 0 frame at s)
 
-  pub count-way : (c h q k : ℕ) (p : Pack) → FirstRow y c q → h ≡ difOf c → Start y h q at → p ≡ asIn q (partAt frame at) → k ≡ countIn p → k ≡ countFor y frame c
+  pub count-way : (c h q k : ℕ) (p : Pack) → FirstRow y c q → h ≡ difOf c → Start y h q at → p ≡ asIn q (sequenceFrom frame at) → k ≡ countIn p → k ≡ countFor y frame c
   unfolding countFor
   count-way c h q k p eq eh s ep ek =
       ek

@@ -9,8 +9,8 @@ use Rattle.rules.specs.Systems.{sequencesOf}
 use Rattle.rules.specs.Audio.{firstOfHalf}
 
 -- the sequence that starts at byte `at` of a frame
-unfoldable pub partAt : List ℕ → ℕ → List ℕ
-partAt frame at = take 12000 (drop at frame)
+unfoldable pub sequenceFrom : List ℕ → ℕ → List ℕ
+sequenceFrom frame at = take 12000 (drop at frame)
 
 -- a start that leaves room for a sequence in what a usize counts
 pub record Low (at : ℕ) : Type 0 where

@@ -7,7 +7,7 @@ ghost use Rattle.rules.specs.Blocks.{blockIn};
 ghost use Rattle.rules.specs.Check.{headerIn, vsIn};
 ghost use Rattle.rules.specs.Audio.{asIn};
 ghost use Rattle.rules.specs.Time.{ssybIn};
-ghost use Rattle.judges.specs.Asked.{partAt, Start, Low, PackAsked, SsybAsked};
+ghost use Rattle.judges.specs.Asked.{sequenceFrom, Start, Low, PackAsked, SsybAsked};
 use layout::BLOCK;
 use layout::SEQUENCE;
 use rules::BlockNumber;
@@ -27,7 +27,7 @@ pub(crate) fn start(y: System, h: u32, q: u32) -> usize
 // Byte i of the header; a block has no byte past its 80.
 pub(crate) fn header_byte(frame: &[u8], at: usize, i: usize) -> u8
     requires { ⌜ Low at ⌝ }
-    ensures { λ r. ⌜ r ≡ getD (headerIn (partAt (now (frame .entry)) at)) i 0 ⌝ }
+    ensures { λ r. ⌜ r ≡ getD (headerIn (sequenceFrom (now (frame .entry)) at)) i 0 ⌝ }
 {
     let p = layout::place_in(Section::Header, BlockNumber(0));
     if i < BLOCK {
@@ -39,7 +39,7 @@ pub(crate) fn header_byte(frame: &[u8], at: usize, i: usize) -> u8
 // The pack from byte i on of the block at place p.
 fn pack_in(frame: &[u8], at: usize, p: Place, i: u32) -> Pack
     requires { ⌜ PackAsked at p i ⌝ }
-    ensures { λ r. ⌜ r ≡ packIn (blockIn (partAt (now (frame .entry)) at) (p .0)) i ⌝ }
+    ensures { λ r. ⌜ r ≡ packIn (blockIn (sequenceFrom (now (frame .entry)) at) (p .0)) i ⌝ }
 {
     let from = at + p.0 as usize * BLOCK + i as usize;
     Pack {
@@ -54,7 +54,7 @@ fn pack_in(frame: &[u8], at: usize, p: Place, i: u32) -> Pack
 // The VS of sequence q.
 pub(crate) fn vs_in(frame: &[u8], at: usize, q: u32) -> Pack
     requires { ⌜ Low at ⌝ }
-    ensures { λ r. ⌜ r ≡ vsIn q (partAt (now (frame .entry)) at) ⌝ }
+    ensures { λ r. ⌜ r ≡ vsIn q (sequenceFrom (now (frame .entry)) at) ⌝ }
 {
     let k = packs::vs_at(q);
     let p = layout::place_in(Section::Vaux, BlockNumber(k / 15));
@@ -64,7 +64,7 @@ pub(crate) fn vs_in(frame: &[u8], at: usize, q: u32) -> Pack
 // The AS of sequence q.
 pub(crate) fn as_in(frame: &[u8], at: usize, q: u32) -> Pack
     requires { ⌜ Low at ⌝ }
-    ensures { λ r. ⌜ r ≡ asIn q (partAt (now (frame .entry)) at) ⌝ }
+    ensures { λ r. ⌜ r ≡ asIn q (sequenceFrom (now (frame .entry)) at) ⌝ }
 {
     let a = packs::as_at(q);
     let p = layout::place_in(Section::Audio, BlockNumber(a));
@@ -74,7 +74,7 @@ pub(crate) fn as_in(frame: &[u8], at: usize, q: u32) -> Pack
 // The pack of SSYB k of the twelve.
 pub(crate) fn ssyb_in(frame: &[u8], at: usize, k: u32) -> Pack
     requires { ⌜ SsybAsked at k ⌝ }
-    ensures { λ r. ⌜ r ≡ ssybIn k (partAt (now (frame .entry)) at) ⌝ }
+    ensures { λ r. ⌜ r ≡ ssybIn k (sequenceFrom (now (frame .entry)) at) ⌝ }
 {
     let p = layout::place_in(Section::Subcode, BlockNumber(k / 6));
     pack_in(frame, at, p, 6 + 8 * (k % 6))

@@ -2,7 +2,7 @@
 ghost use mathlib.Core.Path.{_≡_};
 ghost use Rattle.rules.specs.Header.{flagged};
 ghost use Rattle.rules.specs.Check.{headerIn, dsfAgrees, vsAgrees};
-ghost use Rattle.judges.specs.Asked.{partAt, Low};
+ghost use Rattle.judges.specs.Asked.{sequenceFrom, Low};
 ghost use Rattle.judges.specs.Tests.{testOf};
 use crate::Test;
 use crate::read;
@@ -12,7 +12,7 @@ use rules::System;
 // The header sets TF1, TF2 or TF3, by its number.
 fn is_flagged(frame: &[u8], at: usize, k: u32) -> bool
     requires { ⌜ Low at ⌝ }
-    ensures { λ r. ⌜ r ≡ flagged k (headerIn (partAt (now (frame .entry)) at)) ⌝ }
+    ensures { λ r. ⌜ r ≡ flagged k (headerIn (sequenceFrom (now (frame .entry)) at)) ⌝ }
 {
     let byte = read::header_byte(frame, at, 4 + k as usize);
     byte / 128 == 1
@@ -21,7 +21,7 @@ fn is_flagged(frame: &[u8], at: usize, k: u32) -> bool
 // The header's DSF agrees (21).
 fn dsf_agrees(y: System, frame: &[u8], at: usize, q: u32) -> bool
     requires { ⌜ Low at ⌝ }
-    ensures { λ r. ⌜ r ≡ dsfAgrees y q (partAt (now (frame .entry)) at) ⌝ }
+    ensures { λ r. ⌜ r ≡ dsfAgrees y q (sequenceFrom (now (frame .entry)) at) ⌝ }
 {
     let byte = base::wide(read::header_byte(frame, at, 3));
     let rate = layout::rate(y);
@@ -31,7 +31,7 @@ fn dsf_agrees(y: System, frame: &[u8], at: usize, q: u32) -> bool
 // The VS agrees, where the header's TF2 is 0 (22).
 fn vs_agrees(y: System, frame: &[u8], at: usize, q: u32) -> bool
     requires { ⌜ Low at ⌝ }
-    ensures { λ r. ⌜ r ≡ vsAgrees y q (partAt (now (frame .entry)) at) ⌝ }
+    ensures { λ r. ⌜ r ≡ vsAgrees y q (sequenceFrom (now (frame .entry)) at) ⌝ }
 {
     let not_judged = is_flagged(frame, at, 2);
     let good = packs::vs_ok(y, read::vs_in(frame, at, q));
@@ -41,7 +41,7 @@ fn vs_agrees(y: System, frame: &[u8], at: usize, q: u32) -> bool
 // The sequence passes the test.
 pub(crate) fn passes(y: System, frame: &[u8], at: usize, q: u32, test: Test) -> bool
     requires { ⌜ Low at ⌝ }
-    ensures { λ r. ⌜ r ≡ testOf y test q (partAt (now (frame .entry)) at) ⌝ }
+    ensures { λ r. ⌜ r ≡ testOf y test q (sequenceFrom (now (frame .entry)) at) ⌝ }
 {
     match test {
         Test::Dsf => dsf_agrees(y, frame, at, q),

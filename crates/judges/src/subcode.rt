@@ -1,7 +1,7 @@
 // The time code and the binary group of a frame, and the packs that must agree with them.
 ghost use mathlib.Core.Path.{_≡_};
 ghost use Rattle.rules.specs.Time.{timeFirst, groupFirst, settled, samePack, packAgrees, ssybIn, subcodeAgrees};
-ghost use Rattle.judges.specs.Asked.{partAt, Low, SsybAsked};
+ghost use Rattle.judges.specs.Asked.{sequenceFrom, Low, SsybAsked};
 use crate::read;
 use rules::Pack;
 use rules::SubcodePack;
@@ -57,7 +57,7 @@ fn pack_agrees(
     kind: SubcodePack,
 ) -> bool
     requires { ⌜ SsybAsked at k ⌝ }
-    ensures { λ r. ⌜ r ≡ packAgrees y time group kind (ssybIn k (partAt (now (frame .entry)) at)) ⌝ }
+    ensures { λ r. ⌜ r ≡ packAgrees y time group kind (ssybIn k (sequenceFrom (now (frame .entry)) at)) ⌝ }
 {
     match kind {
         SubcodePack::TimeCode => {
@@ -82,7 +82,7 @@ pub(crate) fn subcode_agrees(
     group: Pack,
 ) -> bool
     requires { ⌜ Low at ⌝ }
-    ensures { λ r. ⌜ r ≡ subcodeAgrees y time group q (partAt (now (frame .entry)) at) ⌝ }
+    ensures { λ r. ⌜ r ≡ subcodeAgrees y time group q (sequenceFrom (now (frame .entry)) at) ⌝ }
 {
     let first = q < layout::half(y);
     let mut good = true;

@@ -10,7 +10,7 @@ use mir.Syntax.{w32}
 use mir.Val.{Fits}
 use borrow.Author.Tests.{eq-eqb, eqb-true}
 use Rattle.base.specs.Run.{run}
-use Rattle.base.proofs.Parts.{range-part, length-part}
+use Rattle.base.proofs.Parts.{range-part}
 use Rattle.base.proofs.Picks.{pick-true, both-held, both-hold}
 use Rattle.base.proofs.Runs.{run-zero, run-more}
 use Rattle.rules.specs.declared.Fault.{Fault}
@@ -20,8 +20,8 @@ use Rattle.rules.specs.Judging.{printedPlaces, keyOf}
 use Rattle.rules.proofs.Judging.{printed-below, key-below}
 use Rattle.rules.proofs.Places.{printed-at}
 use Rattle.bits.specs.Asked.{JudgedBlock}
-use Rattle.noting.specs.Asked.{Clean, BlockAsked, PartAsked}
-use Rattle.noting.proofs.Noting.{clean-block, key-in}
+use Rattle.noting.specs.Asked.{Clean, PartAsked}
+use Rattle.noting.proofs.Noting.{clean-block, key-in, place-asked}
 
 pub clean-start : (f : ℕ → List Fault) → Clean true (run f 0)
 clean-start f = record { none = λ e. run-zero f }
@@ -35,24 +35,12 @@ module _ (part : List ℕ) (h q p : ℕ) (a : PartAsked part h q 0) (l : p < 150
   pub bits-fit : Fits w32 (getD table p 0 + k)
   bits-fit = record { fits = rw e (omega (arith, key-in h q k (a .sequence) ek, printed-at p l, printed-below p l, key-below h q (a .sequence .sequence))) }
 
-  asked : BlockAsked (take (p * 80 + 80 - p * 80) (drop (p * 80) part)) h q p (getD table p 0) k 0
-  asked =
-      let long = length-part (p * 80) 80 part (omega (arith, a .whole)) in
-      record {
-        long = rw (range-part (p * 80) 80 part) (omega (arith, long));
-        sequence = a .sequence;
-        below = l;
-        entry = rw e (printed-at p l);
-        key = key-in h q k (a .sequence) ek;
-        few = omega arith;
-      }
-
   module _ (good : Bool) (bits : ℕ) (m : Clean good (run (placeFaults part h q) p)) (j : JudgedBlock (take (p * 80 + 80 - p * 80) (drop (p * 80) part)) bits) where
     pub clean-bits : Clean (good && eqb bits (getD table p 0 + k)) (run (placeFaults part h q) (p + 1))
     unfolding blockIn blockFaults
     clean-bits =
         clean-turn (placeFaults part h q) p good _ m
-        (record { none = λ s. pick-true _ _ (eq-eqb _ 0 (rw (range-part (p * 80) 80 part) at (clean-block asked j (eqb-true _ _ s)))) })
+        (record { none = λ s. pick-true _ _ (eq-eqb _ 0 (rw (range-part (p * 80) 80 part) at (clean-block (place-asked part h q p (a .whole) (a .sequence) l table k 0 e ek (omega arith)) j (eqb-true _ _ s)))) })
 
     -- a flag that says more
     pub clean-named : (named : Bool) → Clean (good && (named && eqb bits (getD table p 0 + k))) (run (placeFaults part h q) (p + 1))

@@ -3,7 +3,7 @@ use mathlib.Core.Path.{_≡_, refl, sym, ap, _∙_}
 use mathlib.Core.List.{List, [], _∷_}
 use Prim.Native.Nat.{ℕ, _+_, _*_, _≤_, _<_, _-_, _%_}
 use native.Mathlib.Omega.{arith}
-use lib.ListN.{take, drop, getD}
+use lib.ListN.{length, take, drop, getD}
 use borrow.Author.Tests.{eq-eqb, ne-eqb}
 use Rattle.base.specs.Pick.{pick}
 use Rattle.base.specs.Run.{run}
@@ -66,21 +66,28 @@ module _ (block : List ℕ) (h q : ℕ) (p : Place) (e k t : ℕ) (list : List �
     unfolding blockFaults pick
     fault-noted d list′ r n = rw (ne-eqb (faultAt block h q (p .0)) 0 (λ z. d (is-fault ∙ z))) (rw is-fault at n)
 
--- ---- survey_part: place p of a sequence
+-- ---- place p of a sequence, whose block is lent
+
+pub place-asked : (part : List ℕ) (h q p : ℕ) → length part ≡ 12000 → InSequence h q → p < 150 → (table : List ℕ) (k t : ℕ) → table ≡ printedPlaces → k ≡ keyOf h (q % 16) → t < 10000
+    → BlockAsked (take (p * 80 + 80 - p * 80) (drop (p * 80) part)) h q p (getD table p 0) k t
+place-asked part h q p whole i l table k t e ek few =
+    let long = length-part (p * 80) 80 part (omega (arith, whole)) in
+    record {
+      long = rw (range-part (p * 80) 80 part) (omega (arith, long));
+      sequence = i;
+      below = l;
+      entry = rw e (printed-at p l);
+      key = key-in h q k i ek;
+      few = few;
+    }
+
+-- ---- survey_part
 
 module _ (part : List ℕ) (h q t p total : ℕ) (list list′ : List ℕ) (a : PartAsked part h q t) (l : p < 150) (n : Noted list t (run (placeFaults part h q) p) list′ total) where
   pub block-asked : (table : List ℕ) (k : ℕ) → table ≡ printedPlaces → k ≡ keyOf h (q % 16)
       → BlockAsked (take (p * 80 + 80 - p * 80) (drop (p * 80) part)) h q p (getD table p 0) k total
   block-asked table k e ek =
-      let long = length-part (p * 80) 80 part (omega (arith, a .whole)) in
-      record {
-        long = rw (range-part (p * 80) 80 part) (omega (arith, long));
-        sequence = a .sequence;
-        below = l;
-        entry = rw e (printed-at p l);
-        key = key-in h q k (a .sequence) ek;
-        few = omega (arith, n .total, a .few, places-le part h q p);
-      }
+      place-asked part h q p (a .whole) (a .sequence) l table k total e ek (omega (arith, n .total, a .few, places-le part h q p))
 
   pub place-turn : (list″ : List ℕ) (r : ℕ) → Noted list′ total (blockFaults (take (p * 80 + 80 - p * 80) (drop (p * 80) part)) h q p) list″ r
       → Noted list t (run (placeFaults part h q) (p + 1)) list″ r

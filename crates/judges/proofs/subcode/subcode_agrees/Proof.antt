@@ -4,14 +4,14 @@ use Prim.Native.Nat.{_-_, _≤_}
 use native.Mathlib.Omega.{arith}
 use borrow.Author.Needs.{needs}
 use Rattle.base.specs.Below.{below}
-use Rattle.judges.specs.Asked.{partAt}
+use Rattle.judges.specs.Asked.{sequenceFrom}
 use Rattle.judges.proofs.Turns.{agreesAt, ssyb-turn, ssyb-done}
 use Rattle.judges.proofs.subcode.subcode_agrees.Statement.{statement}
 use Rattle.judges.proofs.subcode.subcode_agrees.Tie as tie
 
 abbrev Inv-loop : tie.InvT-loop
 Inv-loop y frame at q time group first good₀ k₀ good k =
-    (good ≡ below (agreesAt y time group first (partAt frame at)) k) × (k ≤ 12)
+    (good ≡ below (agreesAt y time group first (sequenceFrom frame at)) k) × (k ≤ 12)
 
 abbrev μ-loop : tie.MeasureT-loop
 μ-loop y frame at q time group first good₀ k₀ good k = 12 - k
