@@ -31,5 +31,11 @@ pub mod Written
 pub mod Write
 pub mod Rows
 pub mod Known
+pub mod Paper
+pub mod Refusals
+pub mod Form
+pub mod Demand1
+pub mod Demand2
+pub mod Demand3
 pub mod Numbers
 pub mod Statements

@@ -1,0 +1,48 @@
+-- The customer's third demand, clause by clause under his own words: "Take a frame our writer made", f, of what was lent to it, l, "and overwrite
+-- any set of its 80-byte blocks with anything": g is any frame of its length. k is a system's number, n its sequences; c is an audio channel, 1 to 8, and t a position of it.
+use mathlib.Core.Path.{_≡_}
+use mathlib.Core.List.{List, _++_}
+use mathlib.Core.Logic.{_≢_}
+use Prim.Native.Nat.{ℕ, _+_, _-_, _*_, _/_, _<_, min}
+use lib.Dec.{ltb}
+use lib.IntN.{ℤ, pos}
+use lib.ListN.{length, getD, take, drop}
+use Rattle.base.specs.Pick.{pick}
+use Rattle.rules.specs.declared.Survey.{Survey}
+use Rattle.rules.specs.Written.{Lent}
+use Rattle.rules.specs.Paper.{sequences, positions, faultOf, records, soundBlock, soundWord, heard, back}
+use Rattle.rules.specs.Demand2.{given}
+
+-- a position as it was stored: the sample given, and silence from the count on
+abbrev pub stored : Lent → ℕ → ℕ → ℤ
+stored l c t = pick (ltb t (l .count)) (back (given l c t)) (pos 0)
+
+-- the 80 bytes of a position's block, and its fault, 0 where it names its place
+abbrev pub blockOf : ℕ → List ℕ → ℕ → ℕ → List ℕ
+blockOf n f c t = take 80 (drop (soundBlock n c t * 80) f)
+
+abbrev pub faultFor : ℕ → List ℕ → ℕ → ℕ → ℕ
+faultFor n f c t = faultOf n f (soundBlock n c t) (soundBlock n c t)
+
+-- x is what salvage returns of position t of audio channel c
+pub record SampleSalvaged (n : ℕ) (l : Lent) (f g : List ℕ) (c t : ℕ) (x : ℤ) : Type 0 where
+  -- "Told the same system, salvage returns each audio sample from an untouched block exactly as it was stored."
+  pub untouched : blockOf n g c t ≡ blockOf n f c t → x ≡ stored l c t
+  -- "A sample whose block no longer names its own place comes back as lost."
+  pub unnamed : faultFor n g c t ≢ 0 → x ≡ pos 32768
+  -- "One whose block was overwritten but still names its place is read from the bytes now there."
+  pub renamed : faultFor n g c t ≡ 0 → x ≡ heard (soundWord n g c t)
+
+-- a survey of m blocks, the first of which is block `first` of the stream: its answer r, and the fault list before and after
+pub record Listed (n : ℕ) (bytes : List ℕ) (first m : ℕ) (list : List ℕ) (r : Survey) (list′ : List ℕ) : Type 0 where
+  -- "The fault list holds the blocks that do not name their place, from the first in stream order on, as many as it has room for, and nothing else"
+  pub listed : list′ ≡ take (4 * r .kept) (records n bytes first m) ++ drop (4 * r .kept) list
+  pub kept : r .kept ≡ min (length list / 4) (r .total)
+  -- "its total is the number of all such blocks"
+  pub total : 4 * r .total ≡ length (records n bytes first m)
+
+pub record Salvages (k : ℕ) (l : Lent) (f g list : List ℕ) (r : Survey) (samples : List ℤ) (list′ : List ℕ) : Type 0 where
+  pub number : r .number ≡ 0
+  pub size : length samples ≡ 8 * positions k
+  pub sample : (c t : ℕ) → 0 < c → c < 9 → t < positions k → SampleSalvaged (sequences k) l f g c t (getD samples ((c - 1) * positions k + t) (pos 0))
+  pub faults : Listed (sequences k) g 0 (600 * sequences k) list r list′

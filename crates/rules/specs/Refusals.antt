@@ -1,0 +1,237 @@
+-- Document 01's refusal table, call by call: a number is given exactly when its row holds and none before it does. All of it in document 01's
+-- own numbers, of the bytes of the frame (`Paper`).
+use mathlib.Core.Path.{_≡_}
+use mathlib.Core.Bool.{true, _&&_}
+use mathlib.Core.List.{List}
+use mathlib.Core.Logic.{_⊎_, _≢_}
+use Prim.Native.Nat.{ℕ, _+_, _*_, _/_, _%_, _≤_, _<_}
+use lib.Dec.{eqb}
+use lib.IntN.{ℤ, pos, negsuc}
+use lib.ListN.{length, getD}
+use Rattle.base.specs.Pick.{pick}
+use Rattle.rules.specs.Paper.{sequences, positions, fewer, more, macroblocks, rate, stype, lastFrame, byteAt, faultOf, fault, soundChannel, soundFirst, asPlace, countBy, countSaid, vauxPlace, vauxByte, vsPack, ssybPlace, ssybByte, holdsTime, holdsGroup}
+use Rattle.rules.specs.Written.{Lent}
+
+-- ---- a table says which number is given
+
+abbrev pub Table : Type 1
+Table = ℕ → Type 0
+
+-- a row: its number, and what it is given for
+infix 68 _if_
+abbrev pub _if_ : ℕ → Type 0 → Table
+_if_ number Holds r = (r ≡ number) × Holds
+
+-- what a row gives; and where it gives nothing, what the rows behind it give
+infixr 60 _else_
+abbrev pub _else_ : Table → Table → Table
+_else_ row rows r = row r ⊎ (((s : ℕ) → row s → ⊥) × rows r)
+
+-- "A call that succeeds answers number 0."
+abbrev pub none : Table
+none r = r ≡ 0
+
+-- ---- 11 to 15
+
+-- "of 11-15, the first faulty block in stream order, then its lowest number"
+pub record FirstFault (n : ℕ) (f : List ℕ) (r : ℕ) : Type 0 where
+  pub j : ℕ
+  pub within : j < 600 * n
+  pub before : (i : ℕ) → i < j → faultOf n f i i ≡ 0
+  pub is : r ≡ faultOf n f j j
+  pub some : r ≢ 0
+
+-- "its own block's 11-15"
+pub record OwnFault (n : ℕ) (f : List ℕ) (h q p r : ℕ) : Type 0 where
+  pub is : r ≡ fault (byteAt n f h q p 0) (byteAt n f h q p 1) (byteAt n f h q p 2) h q p
+  pub some : r ≢ 0
+
+-- ---- 21 to 23: some header, some VS
+
+-- some sequence q of some DIF channel h
+pub record Some (n : ℕ) (Is : ℕ → ℕ → Type 0) : Type 0 where
+  pub h : ℕ
+  pub q : ℕ
+  pub channel : h < 4
+  pub sequence : q < n
+  pub is : Is h q
+
+-- 21: "some header's DSF disagrees", bit 7 of byte 3
+abbrev pub WrongDsf : ℕ → List ℕ → ℕ → ℕ → Type 0
+WrongDsf k f h q = byteAt (sequences k) f h q 0 3 / 128 ≢ rate k
+
+-- byte i of the VS of a sequence
+abbrev pub vsAt : ℕ → List ℕ → ℕ → ℕ → ℕ → ℕ
+vsAt n f h q i = byteAt n f h q (vauxPlace (vsPack q)) (vauxByte (vsPack q) + i)
+
+-- 22: "some VS disagrees in 60h, rate or STYPE", bits 5 and 4-0 of PC3, "where its header's TF2 is 0", bit 7 of byte 6
+pub record WrongVs (k : ℕ) (f : List ℕ) (h q : ℕ) : Type 0 where
+  pub valid : byteAt (sequences k) f h q 0 6 / 128 ≢ 1
+  pub wrong : (vsAt (sequences k) f h q 0 ≢ 0x60) ⊎ ((vsAt (sequences k) f h q 3 / 32 % 2 ≢ rate k) ⊎ (vsAt (sequences k) f h q 3 % 32 ≢ stype k))
+
+-- 23: "some header sets TF1 .., TF2 .. or TF3", bit 7 of byte 5, 6 or 7
+abbrev pub Flagged : ℕ → ℕ → List ℕ → ℕ → ℕ → Type 0
+Flagged i n f h q = byteAt n f h q 0 i / 128 ≡ 1
+
+-- ---- 24, 25: the AS packs of an audio channel
+
+-- some sequence of its half
+pub record SomeRow (n c : ℕ) (Is : ℕ → ℕ → Type 0) : Type 0 where
+  pub r : ℕ
+  pub row : r < n / 2
+  pub is : Is (soundChannel c) (soundFirst n c + r)
+
+-- "only the system's own counts"
+abbrev pub OwnCount : ℕ → ℕ → Type 0
+OwnCount k count = (count ≡ fewer k) ⊎ (count ≡ more k)
+
+-- byte i of the AS of a sequence
+abbrev pub asAt : ℕ → List ℕ → ℕ → ℕ → ℕ → ℕ
+asAt n f h q i = byteAt n f h q (asPlace q) (3 + i)
+
+-- 24: "AS: 50h; LF 0 in bit 7 and AF size in bits 5-0 ..; bit 7 zero, CHN 00 in bits 6-5, mode in bits 3-0 (0 for channels 1, 3, 5, 7; 1 for 2, 4, 6, 8 ..);
+-- 50/60 bit 5, STYPE 00011; SMP and QU 000 in bits 5-0."
+pub data WrongAs (k : ℕ) (f : List ℕ) (c h q : ℕ) : Type 0 where
+  wrongHeader : asAt (sequences k) f h q 0 ≢ 0x50 → WrongAs k f c h q
+  wrongLf : 128 ≤ asAt (sequences k) f h q 1 → WrongAs k f c h q
+  wrongSize : (OwnCount k (countBy (asAt (sequences k) f h q 1 % 64)) → ⊥) → WrongAs k f c h q
+  wrongChn : 32 ≤ asAt (sequences k) f h q 2 → WrongAs k f c h q
+  wrongMode : asAt (sequences k) f h q 2 % 16 ≢ (c + 1) % 2 → WrongAs k f c h q
+  wrongRate : asAt (sequences k) f h q 3 / 32 % 2 ≢ rate k → WrongAs k f c h q
+  wrongStype : asAt (sequences k) f h q 3 % 32 ≢ 3 → WrongAs k f c h q
+  wrongSmpQu : asAt (sequences k) f h q 4 % 64 ≢ 0 → WrongAs k f c h q
+
+-- 25: "the channel's AS packs differ in count"
+pub record CountsDiffer (n : ℕ) (f : List ℕ) (c : ℕ) : Type 0 where
+  pub r : ℕ
+  pub r′ : ℕ
+  pub row : r < n / 2
+  pub row′ : r′ < n / 2
+  pub differ : countSaid n f (soundChannel c) (soundFirst n c + r) ≢ countSaid n f (soundChannel c) (soundFirst n c + r′)
+
+-- ---- 26, 27, 32: time code and binary group
+
+-- "Units 0-9", in the low nibble; the tens above them in two bits (four values) or three (eight)
+abbrev pub WrongDigits : ℕ → ℕ → ℕ → Type 0
+WrongDigits values most b = (10 ≤ b % 16) ⊎ (most < b / 16 % values * 10 + b % 16)
+
+-- "tens of frames bits 5-4 of PC1, of seconds and minutes bits 6-4 of PC2 and PC3, of hours bits 5-4 of PC4 .. frames to 29 or 24, seconds and minutes to
+-- 59, hours to 23"
+abbrev pub WrongClock : ℕ → ℕ → ℕ → ℕ → ℕ → Type 0
+WrongClock k pc1 pc2 pc3 pc4 = WrongDigits 4 (lastFrame k) pc1 ⊎ (WrongDigits 8 59 pc2 ⊎ (WrongDigits 8 59 pc3 ⊎ WrongDigits 4 23 pc4))
+
+-- byte i of the pack of SSYB j
+abbrev pub ssybAt : ℕ → List ℕ → ℕ → ℕ → ℕ → ℕ → ℕ
+ssybAt n f h q j i = byteAt n f h q (ssybPlace j) (ssybByte j + i)
+
+-- 26: "in channel 0, sequence 0, the time code (SSYB 3) or binary group (SSYB 4) has a wrong header, or the time code a wrong digit"
+pub data WrongFirst (k : ℕ) (f : List ℕ) : Type 0 where
+  wrongTimeHeader : ssybAt (sequences k) f 0 0 3 0 ≢ 0x13 → WrongFirst k f
+  wrongDigit : WrongClock k (ssybAt (sequences k) f 0 0 3 1) (ssybAt (sequences k) f 0 0 3 2) (ssybAt (sequences k) f 0 0 3 3) (ssybAt (sequences k) f 0 0 3 4)
+      → WrongFirst k f
+  wrongGroupHeader : ssybAt (sequences k) f 0 0 4 0 ≢ 0x14 → WrongFirst k f
+
+-- "At 50 Hz bit 6 of PC1 is arbitrary: .. reading ignores it on comparing"
+abbrev pub compared : ℕ → ℕ → ℕ → ℕ
+compared k i b = pick (eqb (rate k) 1 && eqb i 1) (b / 128 * 128 + b % 64) b
+
+-- 27: "another such pack of the frame differs from it", in byte i
+pub data Differs (k : ℕ) (f : List ℕ) (h q : ℕ) : Type 0 where
+  otherTime : (j i : ℕ) → holdsTime (sequences k) q j ≡ true → i < 5
+      → compared k i (ssybAt (sequences k) f h q j i) ≢ compared k i (ssybAt (sequences k) f 0 0 3 i) → Differs k f h q
+  otherGroup : (j i : ℕ) → holdsGroup (sequences k) q j ≡ true → i < 5
+      → ssybAt (sequences k) f h q j i ≢ ssybAt (sequences k) f 0 0 4 i → Differs k f h q
+
+-- ---- 31: "a sample outside -32,768 to 32,768"
+
+abbrev pub Outside : ℤ → Type 0
+Outside (pos v) = 32768 < v
+Outside (negsuc v) = 32767 < v
+
+pub record SomeOutside (sound : List ℤ) : Type 0 where
+  pub i : ℕ
+  pub within : i < length sound
+  pub outside : Outside (getD sound i (pos 0))
+
+-- ---- call by call
+
+-- "an ID read 4 and 11": "an ID 3 bytes"; "5-7 reserved"
+abbrev pub idTable : List ℕ → Table
+idTable id = 4 if (length id ≢ 3) else 11 if (5 ≤ getD id 0 0 / 32) else none
+
+-- "Salvage and survey use 1, 2, 4": a survey is lent the fault list alone, which may have any length, so 4 is never due
+abbrev pub surveyTable : ℕ → ℕ → Table
+surveyTable k size = 1 if (3 < k) else 2 if (size ≢ 48000 * sequences k) else none
+
+abbrev pub salvageTable : ℕ → ℕ → ℕ → Table
+salvageTable k size room = 1 if (3 < k) else 2 if (size ≢ 48000 * sequences k) else 4 if (room ≢ 8 * positions k) else none
+
+-- "a sequence survey 1, 3, 4"
+abbrev pub sequenceTable : ℕ → ℕ → ℕ → ℕ → Table
+sequenceTable k h q size = 1 if (3 < k) else 3 if ((4 ≤ h) ⊎ (sequences k ≤ q)) else 4 if (size ≢ 12000) else none
+
+-- "A block view uses 1, 2, 3 and its own block's 11-15."
+abbrev pub viewTable : ℕ → List ℕ → ℕ → ℕ → ℕ → Table
+viewTable k f h q p =
+    1 if (3 < k)
+    else 2 if (length f ≢ 48000 * sequences k)
+    else 3 if (((4 ≤ h) ⊎ (sequences k ≤ q)) ⊎ (150 ≤ p))
+    else OwnFault (sequences k) f h q p
+    else none
+
+-- "Frame check ends at 22": the rows of every strict read, before its own
+abbrev pub checked : ℕ → List ℕ → Table → Table
+checked k f rows = FirstFault (sequences k) f else 21 if Some (sequences k) (WrongDsf k f) else 22 if Some (sequences k) (WrongVs k f) else rows
+
+abbrev pub checkTable : ℕ → List ℕ → Table
+checkTable k f = 1 if (3 < k) else 2 if (length f ≢ 48000 * sequences k) else checked k f none
+
+-- "audio read adds 23-25"
+abbrev pub audioTable : ℕ → List ℕ → ℕ → ℕ → Table
+audioTable k f c room =
+    1 if (3 < k)
+    else 2 if (length f ≢ 48000 * sequences k)
+    else 3 if ((c ≡ 0) ⊎ (8 < c))
+    else 4 if (room ≢ positions k)
+    else checked k f (
+    23 if Some (sequences k) (Flagged 5 (sequences k) f)
+    else 24 if SomeRow (sequences k) c (WrongAs k f c)
+    else 25 if CountsDiffer (sequences k) f c
+    else none)
+
+-- "macroblock read 23"
+abbrev pub macroblockTable : ℕ → List ℕ → ℕ → Table
+macroblockTable k f b =
+    1 if (3 < k)
+    else 2 if (length f ≢ 48000 * sequences k)
+    else 3 if (macroblocks k ≤ b)
+    else checked k f (23 if Some (sequences k) (Flagged 6 (sequences k) f) else none)
+
+-- "time code read 23, 26, 27"
+abbrev pub timeTable : ℕ → List ℕ → Table
+timeTable k f =
+    1 if (3 < k)
+    else 2 if (length f ≢ 48000 * sequences k)
+    else checked k f (23 if Some (sequences k) (Flagged 7 (sequences k) f) else 26 if WrongFirst k f else 27 if Some (sequences k) (Differs k f) else none)
+
+-- 4 of the writer: "eight times the one count for sound .., 77 bytes a macroblock .., 4 each for time code and binary group"
+abbrev pub WrongLengths : ℕ → Lent → Type 0
+WrongLengths k l =
+    (length (l .sound) ≢ 8 * l .count)
+    ⊎ ((length (l .macroblocks) ≢ 77 * macroblocks k) ⊎ ((length (l .timeCode) ≢ 4) ⊎ (length (l .binaryGroup) ≢ 4)))
+
+-- 32: "time code bytes to be written break the rules"; "At 50 Hz .. the writer takes only 1 (else 32)" in bit 6 of PC1
+abbrev pub WrongTime : ℕ → List ℕ → Type 0
+WrongTime k time =
+    ((rate k ≡ 1) × (getD time 0 0 / 64 % 2 ≢ 1)) ⊎ WrongClock k (getD time 0 0) (getD time 1 0) (getD time 2 0) (getD time 3 0)
+
+-- "the writer 1-4, 31, 32"
+abbrev pub writeTable : ℕ → Lent → ℕ → Table
+writeTable k l size =
+    1 if (3 < k)
+    else 2 if (size ≢ 48000 * sequences k)
+    else 3 if (OwnCount k (l .count) → ⊥)
+    else 4 if WrongLengths k l
+    else 31 if SomeOutside (l .sound)
+    else 32 if WrongTime k (l .timeCode)
+    else none
