@@ -1,31 +1,40 @@
 -- The rules that the demands stand on, in document 01's own numbers. Assumes nothing.
 use mathlib.Core.Path.{_≡_, refl, sym, ap, _∙_}
-use mathlib.Core.Bool.{_||_}
+use mathlib.Core.Bool.{true, _||_}
 use mathlib.Core.List.{List}
-use Prim.Native.Nat.{ℕ, _+_, _-_, _*_, _/_, _%_, _<_}
+use Prim.Native.Nat.{ℕ, suc, _+_, _-_, _*_, _/_, _%_, _≤_, _<_}
 use native.Mathlib.Nat.{mul-add-div, div-eq-of-lt, mul-add-mod-self-left, mod-eq-of-lt}
 use native.Mathlib.Omega.{arith}
-use borrow.Author.Tests.{eqb-true, eqb-false}
-use lib.Dec.{eqb, leb}
-use lib.IntN.{pos, negsuc}
-use lib.ListN.{take, drop}
+use borrow.Author.Tests.{eqb-true, eqb-false, ne-eqb, lt-ltb, le-ltb, leb-true, le-leb, lt-leb}
+use lib.Dec.{eqb, ltb, leb}
+use lib.IntN.{ℤ, pos, negsuc}
+use lib.ListN.{getD, take, drop}
+use lib.Seq.{getD-take, getD-drop}
 use Rattle.base.specs.Pick.{pick}
-use Rattle.base.proofs.Cases.{by-bool}
+use Rattle.base.proofs.Cases.{by-bool, by-lt, by-eq}
+use Rattle.base.proofs.Picks.{both-held}
 use Rattle.rules.specs.declared.System.{System}
 use Rattle.rules.specs.declared.System.the-variants.{I60, I50, P60, P50}
-use Rattle.rules.specs.Systems.{sequencesOf, halfOf, isCount}
+use Rattle.rules.specs.declared.SystemNumber.the-variants.{Known}
+use Rattle.rules.specs.declared.Carried.the-variants.{Macroblock, Nothing}
+use Rattle.rules.specs.Systems.{sequencesOf, halfOf, positionsOf, isCount, systemOf}
 use Rattle.rules.specs.Places.{sectionOf}
 use Rattle.rules.specs.Blocks.{blockAt}
-use Rattle.rules.specs.Samples.{inRange}
+use Rattle.rules.specs.Samples.{numberOf, inRange, sampleIn, sampleOf, wordIn, wordFor, wordAt, backOf}
+use Rattle.rules.specs.Samples
 use Rattle.rules.specs.Sound.{difOf, rowOf, sequenceOf, soundPlace, byteOf}
+use Rattle.rules.specs.Picture.{slot, tenCarries, elevenCarries, carriedIn}
 use Rattle.rules.specs.Faults.{names}
 use Rattle.rules.specs.Stream.{named}
-use Rattle.rules.specs.Reading.{soundBlock, soundNamed}
-use Rattle.rules.specs.Numbers.{soundIndex, InNumbers}
-use Rattle.rules.proofs.Systems.{system-number, system-above, half-cases, half-twice, sequences-some}
+use Rattle.rules.specs.Reading.{soundBlock, soundNamed, readSample}
+use Rattle.rules.specs.Paper
+use Rattle.rules.specs.Paper.{soundStart, soundWord, heard, wordOf, back, tenRows, elevenRows, carried}
+use Rattle.rules.specs.Numbers.{InNumbers}
+use Rattle.rules.proofs.Systems.{system-number, system-above, system-one, half-cases, half-twice, positions-half, sequences-some}
 use Rattle.rules.proofs.Ids.{channel-pairs}
 use Rattle.rules.proofs.Samples.{back-least, back-other}
-use Rattle.rules.proofs.Sound.{row-below, audio-below, sequence-below}
+use Rattle.rules.proofs.Sound.{row-below, audio-below, word-below, sequence-below}
+use Rattle.rules.proofs.Picture.{within-there}
 use Rattle.rules.proofs.Faults.{fault-names, names-fault}
 
 -- ---- isCount
@@ -52,14 +61,52 @@ range-numbers : (n : ℕ) → (inRange (pos n) ≡ leb n 32768) × (inRange (neg
 unfolding inRange
 range-numbers n = (refl, by-bool (leb n 32767) (λ e. rw e refl) (λ e. rw e refl))
 
--- ---- soundBlock, soundNamed
+-- ---- wordFor, backOf: a number that is given, as its word and as it comes back
+
+pub word-is : (z : ℤ) → inRange z ≡ true → wordFor z ≡ wordOf z
+unfolding inRange sampleIn wordIn Samples.wordOf wordOf pick
+word-is (pos n) e =
+    let h : n ≤ 32768 = leb-true n 32768 e in
+    by-eq n 32768
+    (λ q. rw q refl)
+    (λ d. rw (e, lt-leb 32768 n (omega (arith, d)), ne-eqb n 32768 d) refl)
+word-is (negsuc n) e =
+    let h : n ≤ 32767 = leb-true n 32767 (both-held (leb n 32767) true e .0) in
+    by-eq n 32767
+    (λ q. rw q refl)
+    (λ d.
+    let other : 65536 - suc n ≡ 32768 → ⊥ = λ q. d (omega arith) in
+    let same : 65536 - suc n ≡ 0xFFFF - n = omega arith in
+    rw (le-leb n 32767 h, ne-eqb (65536 - suc n) 32768 other, ne-eqb n 32767 d) same)
+
+pub back-is : (z : ℤ) → inRange z ≡ true → backOf z ≡ back z
+unfolding inRange backOf back pick
+back-is (pos n) e = refl
+back-is (negsuc n) e =
+    let h : n ≤ 32767 = leb-true n 32767 (both-held (leb n 32767) true e .0) in
+    by-eq n 32767
+    (λ q. rw q refl)
+    (λ d. rw (lt-leb 32767 n (omega (arith, d)), ne-eqb n 32767 d) refl)
+
+-- ---- sampleOf: what a word says
+
+pub heard-is : (w : ℕ) → numberOf (sampleOf w) ≡ heard w
+unfolding sampleOf heard pick
+heard-is w =
+    by-eq w 0x8000
+    (λ q. rw q refl)
+    (λ d.
+    by-lt w 0x8000
+    (λ l. rw (ne-eqb w 0x8000 d, lt-ltb w 0x8000 l, le-leb w 0x8000 (omega arith)) refl)
+    (λ g.
+    let same : 65536 - suc w ≡ 0xFFFF - w = omega arith in
+    rw (ne-eqb w 0x8000 d, le-ltb w 0x8000 g, lt-leb w 0x8000 (omega (arith, d)), same) refl))
+
+-- ---- soundBlock, soundNamed: the block of a position, its word
 
 module _ (y : System) (g : List ℕ) (c t : ℕ) where
-  abbrev s : ℕ
-  s = sequencesOf y / 2
-
   abbrev j : ℕ
-  j = soundIndex (sequencesOf y) s c t
+  j = Paper.soundBlock (sequencesOf y) c t
 
   index-is : j ≡ (sequencesOf y * difOf c + sequenceOf (halfOf y) c t) * 150 + soundPlace (halfOf y) t
   unfolding halfOf
@@ -71,11 +118,11 @@ module _ (y : System) (g : List ℕ) (c t : ℕ) where
   p-below : soundPlace (halfOf y) t < 150
   p-below = omega (arith, audio-below (halfOf y) (half-cases y) t)
 
-  sound-block : soundBlock y g c t ≡ take 80 (drop (j * 80) g)
+  pub sound-block : soundBlock y g c t ≡ take 80 (drop (j * 80) g)
   unfolding blockAt
   sound-block = ap (λ (x : ℕ). take 80 (drop (x * 80) g)) (sym index-is)
 
-  sound-named : soundNamed y g c t ≡ named y g j
+  pub sound-named : soundNamed y g c t ≡ named y g j
   sound-named =
       let n = sequencesOf y in
       let h = difOf c in
@@ -89,6 +136,60 @@ module _ (y : System) (g : List ℕ) (c t : ℕ) where
   sound-byte : byteOf (halfOf y) t ≡ 8 + 2 * (t / (9 * (sequencesOf y / 2)))
   unfolding halfOf
   sound-byte = refl
+
+  module _ (ht : t < positionsOf y) where
+    -- a byte of the block, by its index in the frame
+    block-byte : (i : ℕ) → i < 80 → getD (soundBlock y g c t) i 0 ≡ getD g (j * 80 + i) 0
+    block-byte i h = ap (λ (b : List ℕ). getD b i 0) sound-block ∙ getD-take 80 (drop (j * 80) g) i 0 h ∙ getD-drop (j * 80) g i 0
+
+    word-within : 8 + 2 * (t / (9 * (sequencesOf y / 2))) + 1 < 80
+    unfolding halfOf
+    word-within = omega (arith, word-below (halfOf y) (half-cases y) t (omega (arith, positions-half y, ht)))
+
+    pub sound-high : getD (soundBlock y g c t) (byteOf (halfOf y) t) 0 ≡ getD g (soundStart (sequencesOf y) c t) 0
+    unfolding halfOf
+    sound-high = block-byte (8 + 2 * (t / (9 * (sequencesOf y / 2)))) (omega (arith, word-within))
+
+    pub sound-low : getD (soundBlock y g c t) (byteOf (halfOf y) t + 1) 0 ≡ getD g (soundStart (sequencesOf y) c t + 1) 0
+    unfolding halfOf
+    sound-low =
+        let i = 8 + 2 * (t / (9 * (sequencesOf y / 2))) in
+        let e : j * 80 + (i + 1) ≡ j * 80 + i + 1 = omega arith in
+        block-byte (i + 1) word-within ∙ ap (λ (x : ℕ). getD g x 0) e
+
+    pub sound-word : wordAt (soundBlock y g c t) (byteOf (halfOf y) t) ≡ soundWord (sequencesOf y) g c t
+    sound-word = rw (sound-high, sound-low) refl
+
+    pub sound-heard : numberOf (readSample y g c t) ≡ heard (soundWord (sequencesOf y) g c t)
+    unfolding readSample
+    sound-heard = heard-is (wordAt (soundBlock y g c t) (byteOf (halfOf y) t)) ∙ ap heard sound-word
+
+-- ---- carriedIn: what the slot V(5g+m) carries
+
+module _ (h q g m : ℕ) (hg : g < 27) (hm : m < 5) where
+  group-is : (5 * g + m) / 5 ≡ g
+  group-is = omega arith
+
+  unit-is : (5 * g + m) % 5 ≡ m
+  unit-is = omega arith
+
+  ten-is : tenCarries h q (5 * g + m) ≡ pick (ltb q 10) (Macroblock (tenRows h q g m)) Nothing
+  unfolding tenCarries
+  ten-is = rw (group-is, unit-is) refl
+
+  eleven-is : q < 12 → elevenCarries h q (5 * g + m) ≡ pick (ltb q 11) (Macroblock (elevenRows h q g m)) (pick (eqb h 0) (Macroblock (5940 + 27 * m + g)) Nothing)
+  unfolding elevenCarries pick
+  eleven-is hq =
+      by-lt q 11
+      (λ l. rw (lt-ltb q 11 l, group-is, unit-is) refl)
+      (λ l. let last : q ≡ 11 = omega arith in rw (last, group-is, unit-is) refl)
+
+  pub carried-is : (k : ℕ) (y : System) → systemOf k ≡ Known y → h < 4 → q < sequencesOf y → carriedIn y (slot h q (5 * g + m)) ≡ carried k h q g m
+  unfolding carried pick
+  carried-is k I60 known hh hq = within-there tenCarries (slot h q (5 * g + m)) hh (omega arith) ∙ ten-is ∙ rw (system-one k I60 known) refl
+  carried-is k I50 known hh hq = within-there elevenCarries (slot h q (5 * g + m)) hh (omega arith) ∙ eleven-is hq ∙ rw (system-one k I50 known) refl
+  carried-is k P60 known hh hq = within-there tenCarries (slot h q (5 * g + m)) hh (omega arith) ∙ ten-is ∙ rw (system-one k P60 known) refl
+  carried-is k P50 known hh hq = within-there tenCarries (slot h q (5 * g + m)) hh (omega arith) ∙ ten-is ∙ rw (system-one k P50 known) refl
 
 -- ---- all
 

@@ -227,7 +227,7 @@ pub record Carries (y : System) (s : Slot) : Type 0 where
   pub below : number < macroblocksOf y
   pub carried : carriedIn y s ≡ Macroblock number
 
-within-there : (f : ℕ → ℕ → ℕ → Carried) (s : Slot) → s .channel < 4 → s .video .0 < 135 → within f s ≡ f (s .channel) (s .sequence) (s .video .0)
+pub within-there : (f : ℕ → ℕ → ℕ → Carried) (s : Slot) → s .channel < 4 → s .video .0 < 135 → within f s ≡ f (s .channel) (s .sequence) (s .video .0)
 unfolding within
 within-there f s h v = pick-true _ _ (lt-ltb _ _ h) ∙ pick-true _ _ (lt-ltb _ _ v)
 

@@ -2,7 +2,7 @@
 use mathlib.Core.Path.{_≡_}
 use mathlib.Core.Bool.{true, false, _||_}
 use mathlib.Core.List.{List}
-use Prim.Native.Nat.{ℕ, _+_, _-_, _*_, _/_, _%_, _<_}
+use Prim.Native.Nat.{ℕ, _+_, _*_, _/_, _%_, _<_}
 use lib.Dec.{eqb, leb}
 use lib.IntN.{pos, negsuc}
 use lib.ListN.{take, drop}
@@ -18,16 +18,12 @@ use Rattle.rules.specs.Sound.{byteOf}
 use Rattle.rules.specs.Faults.{NamesPlace}
 use Rattle.rules.specs.Stream.{named}
 use Rattle.rules.specs.Reading.{soundBlock, soundNamed}
+use Rattle.rules.specs.Paper
 
 -- a row of the table of systems
 pub record Numbers (k : ℕ) (y : System) (n positions macroblocks : ℕ) : Type 0 where
   pub system : systemOf k ≡ Known y
   pub numbers : (sequencesOf y ≡ n) × (positionsOf y ≡ positions) × (macroblocksOf y ≡ macroblocks)
-
--- the block of position t of audio channel c in the stream: "channel c lies in DIF channel (c-1) div 2; odd c in the first n/2 sequences, even c in
--- the rest"; "sequence (t div 3 + 2(t mod 3)) mod s, plus s for even c; audio block 3(t mod 3) + (t mod 9s) div 3s"; "place 6+16a is A(a)"
-abbrev pub soundIndex : ℕ → ℕ → ℕ → ℕ → ℕ
-soundIndex n s c t = (n * ((c - 1) / 2) + (s * ((c + 1) % 2) + (t / 3 + 2 * (t % 3)) % s)) * 150 + (6 + 16 * (3 * (t % 3) + t % (9 * s) / (3 * s)))
 
 pub record InNumbers : Type 0 where
   -- "Each system brings its own four numbers."
@@ -42,8 +38,8 @@ pub record InNumbers : Type 0 where
   pub names : (y : System) (g : List ℕ) (j : ℕ) → named y g j ≡ true → NamesPlace (take 80 (drop (j * 80) g)) (j / 150 / sequencesOf y) (j / 150 % sequencesOf y) (j % 150)
   pub names-not : (y : System) (g : List ℕ) (j : ℕ) → named y g j ≡ false → NamesPlace (take 80 (drop (j * 80) g)) (j / 150 / sequencesOf y) (j / 150 % sequencesOf y) (j % 150) → ⊥
   -- the block and the byte of a sample
-  pub sound : (y : System) (g : List ℕ) (c t : ℕ) → (soundNamed y g c t ≡ named y g (soundIndex (sequencesOf y) (sequencesOf y / 2) c t))
-      × (soundBlock y g c t ≡ take 80 (drop (soundIndex (sequencesOf y) (sequencesOf y / 2) c t * 80) g)) × (byteOf (halfOf y) t ≡ 8 + 2 * (t / (9 * (sequencesOf y / 2))))
+  pub sound : (y : System) (g : List ℕ) (c t : ℕ) → (soundNamed y g c t ≡ named y g (Paper.soundBlock (sequencesOf y) c t))
+      × (soundBlock y g c t ≡ take 80 (drop (Paper.soundBlock (sequencesOf y) c t * 80) g)) × (byteOf (halfOf y) t ≡ 8 + 2 * (t / (9 * (sequencesOf y / 2))))
   -- "a sample outside -32,768 to 32,768"; "a level of -32,768 comes back as -32,767"
   pub range : (n : ℕ) → (inRange (pos n) ≡ leb n 32768) × (inRange (negsuc n) ≡ leb n 32767)
   pub back : (n : ℕ) → (backOf (pos n) ≡ pos n) × (n < 32767 → backOf (negsuc n) ≡ negsuc n) × (backOf (negsuc 32767) ≡ negsuc 32766)
