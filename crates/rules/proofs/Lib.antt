@@ -24,6 +24,7 @@ pub mod Calls
 pub mod Salvage
 pub mod Write
 pub mod Known
+pub mod Paper
 pub mod Numbers
 pub mod Answering
 pub mod ReadingBack

@@ -1,0 +1,150 @@
+-- Document 01's own numbers and bytes are those of the definitions. Assumes nothing.
+use mathlib.Core.Path.{_≡_, refl, sym, ap, _∙_, subst}
+use mathlib.Core.Bool.{Bool}
+use mathlib.Core.List.{List}
+use Prim.Native.Nat.{ℕ, _+_, _*_, _/_, _%_, _≤_, _<_}
+use native.Mathlib.Omega.{arith}
+use lib.Dec.{eqb, eqb→eq}
+use lib.ListN.{length, getD, take, drop, List·getD-eq-default}
+use lib.Seq.{getD-take, getD-drop, length-take-le}
+use borrow.Author.Tests.{lt-leb, le-leb}
+use Rattle.base.specs.Calls.{firstOf}
+use Rattle.base.specs.Pick.{pick}
+use Rattle.base.specs.Run.{run, tab}
+use Rattle.base.proofs.Below.{below-at}
+use Rattle.base.proofs.Cases.{by-lt}
+use Rattle.rules.specs.declared.System.{System}
+use Rattle.rules.specs.declared.System.the-variants.{I60, I50, P60, P50}
+use Rattle.rules.specs.declared.SystemNumber.{SystemNumber}
+use Rattle.rules.specs.declared.SystemNumber.the-variants.{Known, NoSystem}
+use Rattle.rules.specs.declared.Entry.{Entry}
+use Rattle.rules.specs.Systems.{sequencesOf, positionsOf, countsOf, macroblocksOf, rateOf, stypeOf, systemOf, numberOfSystem, inSystem}
+use Rattle.rules.specs.Places.{codeOf, place, places, entryAt}
+use Rattle.rules.specs.Ids.{channelOf, namedBy, fscOf, fspOf}
+use Rattle.rules.specs.Blocks.{startOf, blockAt, sequenceAt, blockIn}
+use Rattle.rules.specs.Faults.{misnamed, faultOf, faultAt}
+use Rattle.rules.specs.Paper.{sequences, positions, fewer, more, macroblocks, rate, stype, lastFrame, byteAt, figure3, sectionAt, numberAt, channelBy, channelBits, fault}
+use Rattle.rules.proofs.Systems.{system-above}
+use Rattle.rules.proofs.Places.{code-section, entry-past}
+use Rattle.rules.proofs.Blocks.{block-in-sequence}
+use Rattle.rules.proofs.Calls.{read-id-11, read-id-0}
+
+-- ---- the table of systems
+
+-- system y in the table's row k
+pub record Columns (k : ℕ) (y : System) : Type 0 where
+  pub sequences-is : sequences k ≡ sequencesOf y
+  pub positions-is : positions k ≡ positionsOf y
+  pub fewer-is : fewer k ≡ countsOf y .fewer
+  pub more-is : more k ≡ countsOf y .more
+  pub macroblocks-is : macroblocks k ≡ macroblocksOf y
+  pub rate-is : rate k ≡ rateOf y
+  pub stype-is : stype k ≡ stypeOf y
+  pub last-is : lastFrame k ≡ Rattle.rules.specs.TimeCode.lastFrame y
+
+columns-at : (y : System) → Columns (numberOfSystem y) y
+columns-at I60 = record { sequences-is = refl; positions-is = refl; fewer-is = refl; more-is = refl; macroblocks-is = refl; rate-is = refl; stype-is = refl; last-is = refl }
+columns-at I50 = record { sequences-is = refl; positions-is = refl; fewer-is = refl; more-is = refl; macroblocks-is = refl; rate-is = refl; stype-is = refl; last-is = refl }
+columns-at P60 = record { sequences-is = refl; positions-is = refl; fewer-is = refl; more-is = refl; macroblocks-is = refl; rate-is = refl; stype-is = refl; last-is = refl }
+columns-at P50 = record { sequences-is = refl; positions-is = refl; fewer-is = refl; more-is = refl; macroblocks-is = refl; rate-is = refl; stype-is = refl; last-is = refl }
+
+-- the number that a system's number says; 4 where it says none
+abbrev said : SystemNumber → ℕ
+said = inSystem 4 numberOfSystem
+
+said-below : (k : ℕ) → k < 4 → said (systemOf k) ≡ k
+unfolding systemOf pick
+said-below k h = eqb→eq _ _ (below-at (λ j. eqb (said (systemOf j)) j) 4 tt k h)
+
+number-below : (y : System) → numberOfSystem y < 4
+number-below I60 = omega arith
+number-below I50 = omega arith
+number-below P60 = omega arith
+number-below P50 = omega arith
+
+-- a number above 3 says none, any other its row
+pub known-below : (k : ℕ) (y : System) → systemOf k ≡ Known y → k < 4
+known-below k y e = by-lt k 4 (λ l. l) (λ g. absurd (omega (arith, number-below y, ap said (sym (system-above k (omega arith)) ∙ e))))
+
+pub columns : (k : ℕ) (y : System) → systemOf k ≡ Known y → Columns k y
+columns k y e = subst (λ (j : ℕ). Columns j y) (sym (ap said e) ∙ said-below k (known-below k y e)) (columns-at y)
+
+-- and each of 0 to 3 says one
+pub known-system : {P : Type 0} (k : ℕ) → k < 4 → ((y : System) → systemOf k ≡ Known y → P) → P
+known-system {P} k h f = by-number (systemOf k) refl
+  where
+    by-number : (s : SystemNumber) → systemOf k ≡ s → P
+    by-number (Known y) e = f y e
+    by-number NoSystem e = absurd (omega (arith, said-below k h, ap said e))
+
+-- ---- figure 3
+
+same-section : ℕ → Bool
+same-section p = eqb (codeOf (entryAt (place p) .section)) (sectionAt p)
+
+same-number : ℕ → Bool
+same-number p = eqb (entryAt (place p) .number .0) (numberAt p)
+
+-- past the 150 places H0 stands in
+figure-past : (p : ℕ) → 150 ≤ p → getD figure3 p (0, 0) ≡ (0, 0)
+unfolding figure3
+figure-past p g = List·getD-eq-default figure3 (0, 0) g
+
+module _ (p : ℕ) where
+  section-within : p < 150 → codeOf (entryAt (place p) .section) ≡ sectionAt p
+  unfolding same-section entryAt places run tab figure3
+  section-within h = eqb→eq _ _ (below-at same-section 150 tt p h)
+
+  number-within : p < 150 → entryAt (place p) .number .0 ≡ numberAt p
+  unfolding same-number entryAt places run tab figure3
+  number-within h = eqb→eq _ _ (below-at same-number 150 tt p h)
+
+  pub figure-section : codeOf (entryAt (place p) .section) ≡ sectionAt p
+  figure-section =
+      by-lt p 150 section-within
+      (λ g. ap (λ (e : Entry). codeOf (e .section)) (entry-past p g) ∙ sym (ap (λ (x : ℕ × ℕ). x .0) (figure-past p g)))
+
+  pub figure-number : entryAt (place p) .number .0 ≡ numberAt p
+  figure-number =
+      by-lt p 150 number-within
+      (λ g. ap (λ (e : Entry). e .number .0) (entry-past p g) ∙ sym (ap (λ (x : ℕ × ℕ). x .1) (figure-past p g)))
+
+-- ---- channelBy, channelBits: "(FSC, FSP) = (0,1), (1,1), (0,0), (1,0) is channel 0, 1, 2, 3"
+
+channel-pair : (w : ℕ) → w < 4 → channelOf (w / 2) (w % 2) ≡ channelBy w
+unfolding channelOf pick
+channel-pair w h = eqb→eq _ _ (below-at (λ j. eqb (channelOf (j / 2) (j % 2)) (channelBy j)) 4 tt w h)
+
+pub channel-by : (x : ℕ) → channelOf (x / 8 % 2) (x / 4 % 2) ≡ channelBy (x / 4 % 4)
+channel-by x =
+    let c : x / 8 % 2 ≡ x / 4 % 4 / 2 = omega arith in
+    let p : x / 4 % 2 ≡ x / 4 % 4 % 2 = omega arith in
+    rw (c, p) (channel-pair (x / 4 % 4) (omega arith))
+
+pub bits-channel : (h : ℕ) → h < 4 → 2 * fscOf h + fspOf h ≡ channelBits h
+bits-channel h l = eqb→eq _ _ (below-at (λ j. eqb (2 * fscOf j + fspOf j) (channelBits j)) 4 tt h l)
+
+-- ---- fault
+
+module _ (bytes : List ℕ) (h q p : ℕ) (long : 3 ≤ length bytes) where
+  pub fault-is : faultAt bytes h q p ≡ fault (getD bytes 0 0) (getD bytes 1 0) (getD bytes 2 0) h q p
+  unfolding faultAt faultOf misnamed namedBy fault firstOf pick
+  fault-is =
+      let three = length-take-le 3 bytes long in
+      let b0 = getD-take 3 bytes 0 0 (omega arith) in
+      let b1 = getD-take 3 bytes 1 0 (omega arith) in
+      let b2 = getD-take 3 bytes 2 0 (omega arith) in
+      by-lt (getD bytes 0 0 / 32) 5
+      (λ l.
+      rw (read-id-0 (take 3 bytes) three (rw b0 l), b0, b1, b2, lt-leb _ _ l, code-section (getD bytes 0 0 / 32) l, channel-by (getD bytes 1 0), figure-section p, figure-number p) refl)
+      (λ g. rw (read-id-11 (take 3 bytes) three (rw b0 g), le-leb _ _ g) refl)
+
+-- ---- byteAt
+
+module _ (y : System) (f : List ℕ) (h q p i : ℕ) (hi : i < 80) where
+  pub byte-at : getD (blockAt y f h q p) i 0 ≡ byteAt (sequencesOf y) f h q p i
+  unfolding blockAt
+  byte-at = getD-take 80 (drop (startOf y h q p) f) i 0 hi ∙ getD-drop (startOf y h q p) f i 0
+
+  pub byte-in : p < 150 → getD (blockIn (sequenceAt y f h q) p) i 0 ≡ byteAt (sequencesOf y) f h q p i
+  byte-in hp = ap (λ (b : List ℕ). getD b i 0) (block-in-sequence y f h q p hp) ∙ byte-at
