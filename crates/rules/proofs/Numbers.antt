@@ -30,12 +30,13 @@ use Rattle.rules.specs.Reading.{soundBlock, soundNamed, readSample}
 use Rattle.rules.specs.Paper
 use Rattle.rules.specs.Paper.{soundStart, soundWord, heard, wordOf, back, tenRows, elevenRows, carried}
 use Rattle.rules.specs.Numbers.{InNumbers}
-use Rattle.rules.proofs.Systems.{system-number, system-above, system-one, half-cases, half-twice, positions-half, sequences-some}
+use Rattle.rules.proofs.Systems.{system-number, system-above, half-cases, half-twice, positions-half, sequences-some}
 use Rattle.rules.proofs.Ids.{channel-pairs}
 use Rattle.rules.proofs.Samples.{back-least, back-other}
 use Rattle.rules.proofs.Sound.{row-below, audio-below, word-below, sequence-below}
 use Rattle.rules.proofs.Picture.{within-there}
 use Rattle.rules.proofs.Faults.{fault-names, names-fault}
+use Rattle.rules.proofs.Paper.{number-known}
 
 -- ---- isCount
 
@@ -186,10 +187,10 @@ module _ (h q g m : ℕ) (hg : g < 27) (hm : m < 5) where
 
   pub carried-is : (k : ℕ) (y : System) → systemOf k ≡ Known y → h < 4 → q < sequencesOf y → carriedIn y (slot h q (5 * g + m)) ≡ carried k h q g m
   unfolding carried pick
-  carried-is k I60 known hh hq = within-there tenCarries (slot h q (5 * g + m)) hh (omega arith) ∙ ten-is ∙ rw (system-one k I60 known) refl
-  carried-is k I50 known hh hq = within-there elevenCarries (slot h q (5 * g + m)) hh (omega arith) ∙ eleven-is hq ∙ rw (system-one k I50 known) refl
-  carried-is k P60 known hh hq = within-there tenCarries (slot h q (5 * g + m)) hh (omega arith) ∙ ten-is ∙ rw (system-one k P60 known) refl
-  carried-is k P50 known hh hq = within-there tenCarries (slot h q (5 * g + m)) hh (omega arith) ∙ ten-is ∙ rw (system-one k P50 known) refl
+  carried-is k I60 known hh hq = within-there tenCarries (slot h q (5 * g + m)) hh (omega arith) ∙ ten-is ∙ rw (number-known k I60 known) refl
+  carried-is k I50 known hh hq = within-there elevenCarries (slot h q (5 * g + m)) hh (omega arith) ∙ eleven-is hq ∙ rw (number-known k I50 known) refl
+  carried-is k P60 known hh hq = within-there tenCarries (slot h q (5 * g + m)) hh (omega arith) ∙ ten-is ∙ rw (number-known k P60 known) refl
+  carried-is k P50 known hh hq = within-there tenCarries (slot h q (5 * g + m)) hh (omega arith) ∙ ten-is ∙ rw (number-known k P50 known) refl
 
 -- ---- all
 

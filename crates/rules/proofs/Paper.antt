@@ -66,8 +66,11 @@ number-below P50 = omega arith
 pub known-below : (k : ℕ) (y : System) → systemOf k ≡ Known y → k < 4
 known-below k y e = by-lt k 4 (λ l. l) (λ g. absurd (omega (arith, number-below y, ap said (sym (system-above k (omega arith)) ∙ e))))
 
+pub number-known : (k : ℕ) (y : System) → systemOf k ≡ Known y → k ≡ numberOfSystem y
+number-known k y e = sym (said-below k (known-below k y e)) ∙ ap said e
+
 pub columns : (k : ℕ) (y : System) → systemOf k ≡ Known y → Columns k y
-columns k y e = subst (λ (j : ℕ). Columns j y) (sym (ap said e) ∙ said-below k (known-below k y e)) (columns-at y)
+columns k y e = subst (λ (j : ℕ). Columns j y) (sym (number-known k y e)) (columns-at y)
 
 -- and each of 0 to 3 says one
 pub known-system : {P : Type 0} (k : ℕ) → k < 4 → ((y : System) → systemOf k ≡ Known y → P) → P

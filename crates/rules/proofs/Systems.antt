@@ -1,16 +1,16 @@
 -- Laws of the four systems. Assumes nothing.
-use mathlib.Core.Path.{_≡_, refl, sym, ap, _∙_}
+use mathlib.Core.Path.{_≡_, refl}
 use mathlib.Core.Bool.{true}
 use mathlib.Core.Logic.{_⊎_, inl, inr, ⊎-elim}
 use Prim.Native.Nat.{ℕ, _+_, _*_, _≤_, _<_}
 use native.Mathlib.Omega.{arith}
 use borrow.Author.Tests.{ne-eqb, eqb-true}
 use Rattle.base.specs.Pick.{pick}
-use Rattle.base.proofs.Cases.{by-lt, by-eq}
+use Rattle.base.proofs.Cases.{by-eq}
 use Rattle.rules.specs.declared.System.{System}
 use Rattle.rules.specs.declared.System.the-variants.{I60, I50, P60, P50}
 use Rattle.rules.specs.declared.SystemNumber.the-variants.{Known, NoSystem}
-use Rattle.rules.specs.Systems.{sequencesOf, halfOf, positionsOf, countsOf, isCount, macroblocksOf, rateOf, stypeOf, systemOf, numberOfSystem, inSystem}
+use Rattle.rules.specs.Systems.{sequencesOf, halfOf, positionsOf, countsOf, isCount, macroblocksOf, rateOf, stypeOf, systemOf, numberOfSystem}
 
 -- ---- systemOf
 
@@ -26,27 +26,6 @@ pub system-above : (k : ℕ) → 3 < k → systemOf k ≡ NoSystem
 unfolding systemOf pick
 system-above k h =
     rw (ne-eqb k 0 (λ e. omega arith), ne-eqb k 1 (λ e. omega arith), ne-eqb k 2 (λ e. omega arith), ne-eqb k 3 (λ e. omega arith)) refl
-
--- a known system's number is its own
-pub system-one : (k : ℕ) (y : System) → systemOf k ≡ Known y → k ≡ numberOfSystem y
-unfolding systemOf pick
-system-one k y e =
-    by-lt 3 k
-    (λ above. absurd (omega (arith, number-below y, ap (inSystem 4 numberOfSystem) (sym (system-above k above) ∙ e))))
-    (λ below. number-again k below ∙ ap (inSystem 4 numberOfSystem) e)
-  where
-    number-below : (y : System) → numberOfSystem y < 4
-    number-below I60 = omega arith
-    number-below I50 = omega arith
-    number-below P60 = omega arith
-    number-below P50 = omega arith
-
-    number-again : (k : ℕ) → k ≤ 3 → k ≡ inSystem 4 numberOfSystem (systemOf k)
-    number-again k h =
-        by-eq k 0 (λ e. rw e refl) (λ a.
-        by-eq k 1 (λ e. rw e refl) (λ b.
-        by-eq k 2 (λ e. rw e refl) (λ c.
-        by-eq k 3 (λ e. rw e refl) (λ d. absurd (omega arith)))))
 
 -- ---- sequencesOf
 
