@@ -46,7 +46,7 @@ pair-one p q = record {
 -- ---- read_id
 
 module _ (id : List ℕ) where
-  says-number : idSays id .number ≡ idNumber id
+  pub says-number : idSays id .number ≡ idNumber id
   unfolding idSays pick
   says-number = by-eq (idNumber id) 0 (λ z. rw (eq-eqb _ 0 z) (sym z)) (λ d. rw (ne-eqb _ 0 d) refl)
 

@@ -27,6 +27,7 @@ pub mod Known
 pub mod Paper
 pub mod Numbers
 pub mod Answering
+pub mod ReadingOut
 pub mod ReadingBack
 pub mod Salvaging
 pub mod Worthless
