@@ -57,7 +57,7 @@ module _ (id : List ℕ) where
 -- ---- survey, survey_sequence, and salvage beside its samples
 
 module _ {number : ℕ} {fs : List Fault} {list list′ : List ℕ} {r : Survey} (s : Surveyed number fs list r list′) where
-  survey-number : r .number ≡ number
+  pub survey-number : r .number ≡ number
   survey-number =
       by-eq number 0
       (λ z. ap (λ (x : Survey). x .number) (survey-taken s z .0) ∙ sym z)

@@ -28,6 +28,7 @@ pub mod Paper
 pub mod Numbers
 pub mod Answering
 pub mod ReadingOut
+pub mod Listing
 pub mod ReadingBack
 pub mod Salvaging
 pub mod Worthless
