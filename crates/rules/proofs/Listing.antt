@@ -65,12 +65,11 @@ module _ (y : System) where
   pub frame-records : (f : List ℕ) → length f ≡ 48000 * n → flat (frameFaults y f) ≡ records n f 0 (600 * n)
   unfolding unnamed blockFaults records
   frame-records f whole =
-      let m : 150 * (n * 4) ≡ 600 * n = omega arith in
-      ap flat (faults-stream y f)
+      let m : 600 * n ≡ 150 * (n * 4) = omega arith in
+      rw m
+      (ap flat (faults-stream y f)
       ∙ flat-run _ (150 * (n * 4))
-      ∙ run-same _ (λ (j : ℕ). pick (eqb (faultOf n f j (0 + j)) 0) [] ((0 + j) / 150 / n ∷ (0 + j) / 150 % n ∷ (0 + j) % 150 ∷ faultOf n f j (0 + j) ∷ [])) (150 * (n * 4)) (λ j l.
-      rw zero-add (block-record f j (j / 150 / n) (j / 150 % n) (j % 150) (omega (arith, whole, l))))
-      ∙ ap (λ (i : ℕ). records n f 0 i) m
+      ∙ run-same _ _ (150 * (n * 4)) (λ j l. rw zero-add (block-record f j (j / 150 / n) (j / 150 % n) (j % 150) (omega (arith, whole, l)))))
 
   -- of sequence q of DIF channel h, whose first block is number (n h + q) 150 of the stream
   module _ (h q : ℕ) (hq : q < n) where
@@ -128,8 +127,8 @@ sequence-listed k h q {sequence} s z =
     (λ d. absurd (omega (arith, zero, sequence-4 k h q (length sequence) y known o d)))))
 
 -- "Salvage and survey give the same list, total and kept for the same frame."
-pub salvage-listed : (k : ℕ) {frame : List ℕ} {samples samples′ : List ℤ} {list list′ : List ℕ} {r : Survey} → Salvaged k frame samples list r samples′ list′ → r .number ≡ 0
-    → Listed (sequences k) frame 0 (600 * sequences k) list r list′
+pub salvage-listed : (k : ℕ) {frame : List ℕ} {samples samples′ : List ℤ} {list list′ : List ℕ} {r : Survey}
+    → Salvaged k frame samples list r samples′ list′ → r .number ≡ 0 → Listed (sequences k) frame 0 (600 * sequences k) list r list′
 salvage-listed k {frame} {samples} s z =
     let zero : salvageNumber k frame (length samples) ≡ 0 = sym (survey-number (s .survey)) ∙ z in
     by-system k
