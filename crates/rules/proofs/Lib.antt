@@ -28,6 +28,7 @@ pub mod Paper
 pub mod Numbers
 pub mod Answering
 pub mod ReadingBack
+pub mod Templates
 pub mod Form
 pub mod Salvaging
 pub mod Worthless
