@@ -7,9 +7,11 @@ use Prim.Native.Nat.{ℕ, _+_, _*_, _/_, _%_, _≤_, _<_}
 use native.Mathlib.Omega.{arith}
 use lib.ListN.{length, getD, take, drop, replicate, length-drop}
 use lib.Seq.{take-all, drop-drop, take-append-le, drop-append-le, getD-take, getD-drop}
+use borrow.Author.Tests.{lt-ltb}
 use Rattle.base.specs.Pick.{pick}
 use Rattle.base.specs.Run.{run, Wide}
 use Rattle.base.proofs.Parts.{part-part}
+use Rattle.base.proofs.Picks.{both-hold}
 use Rattle.base.proofs.Runs.{end-within, length-run, run-at}
 use Rattle.rules.specs.declared.System.{System}
 use Rattle.rules.specs.declared.SystemNumber.the-variants.{Known}
@@ -28,20 +30,27 @@ use Rattle.rules.specs.Vaux.{vauxPack, vauxPacks, vauxBytes}
 use Rattle.rules.specs.Aaux
 use Rattle.rules.specs.Aaux.{asAt, sizeOf, countOf, aauxPack}
 use Rattle.rules.specs.Sound.{audioAt}
+use Rattle.rules.specs.Picture.{slot}
 use Rattle.rules.specs.Time.{fourBytes}
 use Rattle.rules.specs.Written.{Lent, storedWord, audioBytes, payload, entryBlock, writtenBlock, writtenFrame}
-use Rattle.rules.specs.Paper.{sequences, rate, start, byteAt, bytesAt, soundStart, soundWord, asPack, countBy, countSaid, slotPlace, carried}
+use Rattle.rules.specs.Write.{Wrote, Takes}
+use Rattle.rules.specs.Paper.{sequences, rate, start, byteAt, bytesAt, soundStart, soundWord, wordOf, asPack, countBy, countSaid, slotPlace, carried}
 use Rattle.rules.specs.Refusals.{OwnCount}
 use Rattle.rules.specs.Form.{cut, idForm, headerForm, ssybForm, vauxForm, aauxForm, HasForm}
-use Rattle.rules.proofs.Systems.{count-cases, sequences-le, sequences-some}
+use Rattle.rules.specs.Demand2.{given, LaidOut, WritesBack}
+use Rattle.rules.proofs.Systems.{count-cases, count-below, sequences-le, sequences-some}
 use Rattle.rules.proofs.Packs.{taken-means}
 use Rattle.rules.proofs.Subcode.{ssyb-length, subcode-rest, first-when}
 use Rattle.rules.proofs.Vaux.{vaux-rest}
 use Rattle.rules.proofs.Aaux.{size-below, as-count}
 use Rattle.rules.proofs.Samples.{bytes-word}
-use Rattle.rules.proofs.Written.{payload-length, frame-length, frame-block, frame-payload, frame-high, frame-low, stored-tail, pictureBytes, frame-empty}
+use Rattle.rules.proofs.Picture.{carried-lies}
+use Rattle.rules.proofs.Written.{payload-length, frame-length, frame-block, frame-payload, frame-high, frame-low, given-in, stored-word, stored-tail, frame-macroblock, frame-empty}
 use Rattle.rules.proofs.Paper.{Columns, columns}
-use Rattle.rules.proofs.Numbers.{sound-high, sound-low, carried-is}
+use Rattle.rules.proofs.Numbers.{word-is, back-is, sound-high, sound-low, carried-is}
+use Rattle.rules.proofs.Write.{write-takes, write-taken}
+use Rattle.rules.proofs.ReadingBack
+use Rattle.rules.proofs.ReadingBack.{four-again}
 use Rattle.rules.proofs.Templates.{id-form, header-form, ssyb-form, vaux-form, aaux-form}
 
 -- ---- parts of a block
@@ -235,4 +244,55 @@ module _ (k : ℕ) (y : System) (known : systemOf k ≡ Known y) (l : Lent) wher
       empty = λ h q g m hh hq hg hm e.
           behind-written h q hh (within hq) Video (5 * g + m) (omega arith)
           ∙ frame-empty y l h q (5 * g + m) hh (within hq) (omega arith) (carried-is h q g m hg hm k y known hh (within hq) ∙ e);
+    }
+
+-- ---- LaidOut
+
+module _ (k : ℕ) (y : System) (known : systemOf k ≡ Known y) (l : Lent) (size : ℕ) (takes : Takes y l size) where
+  -- the word of a sample that was given
+  word-given : (c t : ℕ) → 0 < c → c < 9 → t < l .count → storedWord l c t ≡ wordOf (given l c t)
+  word-given c t c1 c8 ht = stored-word l c t c1 c8 (takes .sounds) (takes .levels) ht ∙ word-is (given l c t) (given-in l c t c1 c8 (takes .sounds) (takes .levels) ht)
+
+  in-positions : {t : ℕ} → t < l .count → t < positionsOf y
+  in-positions h = omega (arith, h, count-below y (l .count) (takes .counts))
+
+  pub laid-out : LaidOut k l (writtenFrame y l)
+  unfolding w
+  laid-out = record {
+    form = written-form k y known l (takes .counts) (takes .clock);
+    count = count-first k y known l (takes .counts);
+    time = time-first k y known l ∙ four-again (l .timeCode) (takes .times);
+    group = group-first k y known l ∙ four-again (l .binaryGroup) (takes .groups);
+    high = λ c t c1 c8 ht. high-written k y known l c t c1 c8 (in-positions ht) ∙ ap (λ (x : ℕ). x / 256) (word-given c t c1 c8 ht);
+    low = λ c t c1 c8 ht. low-written k y known l c t c1 c8 (in-positions ht) ∙ ap (λ (x : ℕ). x % 256) (word-given c t c1 c8 ht);
+    macroblock = λ h q g m b hh hq hg hm e.
+        let hq′ = within k y known l hq in
+        let carries = carried-is h q g m hg hm k y known hh hq′ ∙ e in
+        behind-written k y known l h q hh hq′ Video (5 * g + m) (omega arith)
+        ∙ frame-macroblock y l h q (5 * g + m) hh hq′ (omega arith) b carries (omega (arith, takes .pictures, carried-lies y (slot h q (5 * g + m)) b carries .0));
+  }
+
+-- ---- WritesBack
+
+pub writes-back : {k : ℕ} {y : System} {l : Lent} {frame f : List ℕ} → systemOf k ≡ Known y → Wrote k l frame 0 f → WritesBack k l f
+writes-back {k} {y} {l} {frame} {f} known wrote =
+    let takes = write-takes k y known l frame wrote in
+    let is = columns k y known in
+    record {
+      laid-out = subst (LaidOut k l) (sym (write-taken k y known l frame takes wrote .1)) (laid-out k y known l (length frame) takes);
+      reads-back = λ c samples b o c1 c8 room hb read.
+          let back = ReadingBack.writes-back known wrote .reads-back refl c samples b
+          (record { check = o .check; audio = o .audio; samples = o .samples; number = o .number; part = o .part; time = o .time })
+          (both-hold (lt-ltb 0 c c1) (lt-ltb c 9 c8)) (room ∙ is .positions-is) (subst (λ (n : ℕ). b < n) (is .macroblocks-is) hb)
+          (record { check = read .check; audio = read .audio; number = read .number; part = read .part; time = read .time }) in
+          record {
+            check = back .check;
+            audio = back .audio;
+            sample = λ t ht. back .sample t ht ∙ back-is (given l c t) (given-in l c t c1 c8 (takes .sounds) (takes .levels) ht);
+            rest = back .rest;
+            size = back .size;
+            number = back .number;
+            part = back .part;
+            time = back .time;
+          };
     }
