@@ -30,6 +30,8 @@ pub mod Answering
 pub mod ReadingOut
 pub mod Listing
 pub mod ReadingBack
+pub mod Templates
+pub mod Form
 pub mod Salvaging
 pub mod Worthless
 pub mod Demands

@@ -58,7 +58,7 @@ read-out {k} {y} {f} {c} {samples} {b} {o} known read =
 
 -- ---- fourBytes: those that a pack was made of
 
-four-again : (bytes : List ℕ) → length bytes ≡ 4 → getD bytes 0 0 ∷ getD bytes 1 0 ∷ getD bytes 2 0 ∷ getD bytes 3 0 ∷ [] ≡ bytes
+pub four-again : (bytes : List ℕ) → length bytes ≡ 4 → getD bytes 0 0 ∷ getD bytes 1 0 ∷ getD bytes 2 0 ∷ getD bytes 3 0 ∷ [] ≡ bytes
 unfolding tab run
 four-again bytes e = tab-part 0 bytes 0 4 (omega (arith, e)) ∙ take-all 4 bytes (omega (arith, e))
 

@@ -5,7 +5,7 @@ use mathlib.Core.List.{List, [], _++_}
 use Prim.Native.Nat.{ℕ, _+_, _-_, _*_, _/_, _%_, _≤_, _<_}
 use native.Mathlib.Nat.{mul-comm, mul-assoc}
 use native.Mathlib.Omega.{arith}
-use lib.IntN.{pos}
+use lib.IntN.{ℤ, pos}
 use lib.ListN.{length, take, drop, getD, replicate}
 use lib.Seq.{getD-append-add}
 use borrow.Author.Tests.{eq-eqb, lt-ltb, le-ltb}
@@ -28,7 +28,7 @@ use Rattle.rules.specs.TimeCode.{timePack, groupPack}
 use Rattle.rules.specs.Subcode.{isFirst, kindOf, subcodePack, ssybPack}
 use Rattle.rules.specs.Vaux.{vsAt, vsPack, vauxPack, vauxBytes, vauxBlock, vauxIn}
 use Rattle.rules.specs.Aaux.{asAt, asPack, aauxPack, aauxIn}
-use Rattle.rules.specs.Samples.{numberOf, sampleOf, allInRange, bytesOf, wordAt, backOf}
+use Rattle.rules.specs.Samples.{numberOf, inRange, sampleOf, allInRange, wordFor, bytesOf, wordAt, backOf}
 use Rattle.rules.specs.Sound as sound
 use Rattle.rules.specs.Sound.{difOf, halfAt, rowOf, audioOf, wordNumber, byteOf, audioAt, sampleAt}
 use Rattle.rules.specs.Picture.{slot, carriedIn}
@@ -201,14 +201,21 @@ module _ (y : System) (l : Lent) (c t : ℕ) (c1 : 0 < c) (c8 : c < 9) (ht : t <
   frame-word = ap₂ (λ (x z : ℕ). x * 256 + z) frame-high frame-low ∙ bytes-word (storedWord l c t)
 
 -- what a word says that was stored: the number that was given, or silence from the count on
-pub stored-given : (l : Lent) (c t : ℕ) → 0 < c → c < 9 → length (l .sound) ≡ 8 * l .count → allInRange (l .sound) ≡ true → t < l .count
-    → numberOf (sampleOf (storedWord l c t)) ≡ backOf (getD (l .sound) ((c - 1) * l .count + t) (pos 0))
-unfolding storedWord
-stored-given l c t c1 c8 len all ht =
-    let c7 : c - 1 < 8 = omega arith in
-    let b : (c - 1) * l .count + t < length (l .sound) = omega (arith, end-within (l .count) (c - 1) 8 c7) in
-    ap (λ (w : ℕ). numberOf (sampleOf w)) (pick-true _ _ (lt-ltb t (l .count) ht))
-    ∙ number-again (getD (l .sound) ((c - 1) * l .count + t) (pos 0)) (all-in (l .sound) ((c - 1) * l .count + t) all b)
+module _ (l : Lent) (c t : ℕ) (c1 : 0 < c) (c8 : c < 9) (len : length (l .sound) ≡ 8 * l .count) (all : allInRange (l .sound) ≡ true) (ht : t < l .count) where
+  abbrev given : ℤ
+  given = getD (l .sound) ((c - 1) * l .count + t) (pos 0)
+
+  pub given-in : inRange given ≡ true
+  given-in =
+      let c7 : c - 1 < 8 = omega arith in
+      all-in (l .sound) ((c - 1) * l .count + t) all (omega (arith, end-within (l .count) (c - 1) 8 c7))
+
+  pub stored-word : storedWord l c t ≡ wordFor given
+  unfolding storedWord
+  stored-word = pick-true _ _ (lt-ltb t (l .count) ht)
+
+  pub stored-given : numberOf (sampleOf (storedWord l c t)) ≡ backOf given
+  stored-given = ap (λ (w : ℕ). numberOf (sampleOf w)) stored-word ∙ number-again given given-in
 
 pub stored-tail : (l : Lent) (c t : ℕ) → l .count ≤ t → storedWord l c t ≡ 0
 unfolding storedWord
