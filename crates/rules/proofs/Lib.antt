@@ -33,5 +33,6 @@ pub mod ReadingBack
 pub mod Templates
 pub mod Form
 pub mod Salvaging
+pub mod Salvages
 pub mod Worthless
 pub mod Demands

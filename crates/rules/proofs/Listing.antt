@@ -23,7 +23,7 @@ use Rattle.rules.specs.Stream.{unnamed}
 use Rattle.rules.specs.Records.{flat, kept, after}
 use Rattle.rules.specs.Survey.{outsideSequences, surveyNumber, sequenceNumber, Surveyed, FrameSurveyed, SequenceSurveyed}
 use Rattle.rules.specs.Salvage.{salvageNumber, Salvaged}
-use Rattle.rules.specs.Paper.{sequences, fault, faultOf, records}
+use Rattle.rules.specs.Paper.{sequences, fault, records}
 use Rattle.rules.specs.Demand3.{Listed}
 use Rattle.rules.proofs.Systems.{sequences-some}
 use Rattle.rules.proofs.Faults.{faults-stream}
@@ -45,7 +45,7 @@ module _ (bytes : List ℕ) (j h q p : ℕ) (room : j * 80 + 80 ≤ length bytes
   byte-is : (i : ℕ) → i < 80 → getD block i 0 ≡ getD bytes (j * 80 + i) 0
   byte-is i l = getD-take 80 (drop (j * 80) bytes) i 0 l ∙ getD-drop (j * 80) bytes i 0
 
-  block-fault : faultAt block h q p ≡ found
+  pub block-fault : faultAt block h q p ≡ found
   block-fault =
       let e : j * 80 + 0 ≡ j * 80 = omega arith in
       let first = byte-is 0 (omega arith) ∙ ap (λ (a : ℕ). getD bytes a 0) e in
@@ -134,3 +134,19 @@ salvage-listed k {frame} {samples} s z =
     by-system k
     (λ none. absurd (omega (arith, zero, salvage-1 k frame (length samples) none)))
     (λ y known. survey-listed k (salvage-surveys s y known zero) z)
+
+-- ---- Listed: what meets it is the answer
+
+module _ {n first m : ℕ} {bytes list list₁ list₂ : List ℕ} {r r′ : Survey} (a : Listed n bytes first m list r list₁)
+    (b : Listed n bytes first m list r′ list₂) where
+  total-one : r .total ≡ r′ .total
+  total-one = omega (arith, a .total, b .total)
+
+  kept-one : r .kept ≡ r′ .kept
+  kept-one = a .kept ∙ ap (min (length list / 4)) total-one ∙ sym (b .kept)
+
+  pub listed-one : r .number ≡ r′ .number → (r ≡ r′) × (list₁ ≡ list₂)
+  listed-one number = (
+    λ i. record { number = number i; total = total-one i; kept = kept-one i },
+    a .listed ∙ ap (λ (j : ℕ). take (4 * j) (records n bytes first m) ++ drop (4 * j) list) kept-one ∙ sym (b .listed),
+  )

@@ -32,6 +32,7 @@ use Rattle.rules.specs.Paper.{soundStart, soundWord, heard, wordOf, back
 use Rattle.rules.specs.Numbers.{InNumbers}
 use Rattle.rules.proofs.Systems.{system-number, system-above, half-cases, half-twice, positions-half, sequences-some}
 use Rattle.rules.proofs.Ids.{channel-pairs}
+use Rattle.rules.proofs.Blocks.{start-within}
 use Rattle.rules.proofs.Samples.{back-least, back-other}
 use Rattle.rules.proofs.Sound.{row-below, audio-below, word-below, sequence-below}
 use Rattle.rules.proofs.Picture.{within-there}
@@ -133,6 +134,10 @@ module _ (y : System) (g : List ℕ) (c t : ℕ) where
       let channel : (n * h + q) / n ≡ h = mul-add-div (sequences-some y) h q ∙ ap (λ (x : ℕ). h + x) (div-eq-of-lt q-below) ∙ omega arith in
       let dseq : (n * h + q) % n ≡ q = mul-add-mod-self-left n h q ∙ mod-eq-of-lt q-below in
       rw (row, place, channel, dseq) (ap (λ (b : List ℕ). names b h q (soundPlace (halfOf y) t)) sound-block)
+
+  -- it lies in the frame
+  pub sound-within : 0 < c → c < 9 → j * 80 + 80 ≤ 48000 * sequencesOf y
+  sound-within c1 c8 = omega (arith, index-is, start-within y (difOf c) (sequenceOf (halfOf y) c t) (soundPlace (halfOf y) t) (omega arith) q-below p-below)
 
   sound-byte : byteOf (halfOf y) t ≡ 8 + 2 * (t / (9 * (sequencesOf y / 2)))
   unfolding halfOf
