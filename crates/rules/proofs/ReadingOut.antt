@@ -132,7 +132,12 @@ module _ {k : ℕ} {f : List ℕ} {c : ℕ} {samples samples′ : List ℤ} {r :
     size-out =
         ap length (audio-taken k f c samples y known z read .1)
         ∙ length-append heard-out (drop (countFor y f c) samples)
-        ∙ omega (arith, length-tab (λ (t : ℕ). numberOf (readSample y f c t)) (countFor y f c), length-drop (countFor y f c) samples, audio-count k f c samples y known z)
+        ∙ omega (
+          arith,
+          length-tab (λ (t : ℕ). numberOf (readSample y f c t)) (countFor y f c),
+          length-drop (countFor y f c) samples,
+          audio-count k f c samples y known z,
+        )
 
   -- a number of 0 says a known system
   by-audio : {P : Type 0} → audioNumber k f c (length samples) ≡ 0 → ((y : System) → systemOf k ≡ Known y → P) → P
@@ -159,13 +164,15 @@ module _ (k : ℕ) (f : List ℕ) (b : ℕ) (z : macroblockNumber k f b ≡ 0) (
   unfolding slotBytes
   part-out read =
       by-slot (λ y known is.
-      read .answer ∙ macroblock-carried k f b y known z (slot h q (5 * g + m)) is ∙ rest-bytes y f h q (slotPlace (5 * g + m)) ∙ rw (columns k y known .sequences-is) refl)
+      read .answer ∙ macroblock-carried k f b y known z (slot h q (5 * g + m)) is ∙ rest-bytes y f h q (slotPlace (5 * g + m))
+      ∙ rw (columns k y known .sequences-is) refl)
 
   slot-out : {r : Part} → MacroblockLies k f b r → r ≡ record { number = 0; start = start (sequences k) h q (slotPlace (5 * g + m)) + 3; length = 77 }
   unfolding macroblockAt carrierStart slotStart
   slot-out lies =
       by-slot (λ y known is.
-      lies .answer ∙ part-taken (macroblockNumber k f b) _ 77 z ∙ rw (known, carried-lies y (slot h q (5 * g + m)) b is .1, columns k y known .sequences-is) refl)
+      lies .answer ∙ part-taken (macroblockNumber k f b) _ 77 z
+      ∙ rw (known, carried-lies y (slot h q (5 * g + m)) b is .1, columns k y known .sequences-is) refl)
 
 pub macroblock-out : {k : ℕ} {f : List ℕ} {b : ℕ} {r : Part} → MacroblockLies k f b r → MacroblockOut k f b r
 macroblock-out {k} {f} {b} lies = record {
@@ -214,8 +221,12 @@ read-out {k} {f} {c} {samples} {b} {o} read =
     let audio : o .audio .number ≡ 0 → audioNumber k f c (length samples) ≡ 0 = λ z. sym (audio-number k f c samples (read .audio)) ∙ z in
     let time : o .time .number ≡ 0 → timeNumber k f ≡ 0 = λ z. sym (time-number k f (read .time)) ∙ z in
     record {
-      count = λ z. by-audio (read .audio) (audio z) (λ y known. count-is (read .audio) y known (audio z) ∙ count-out y f c ∙ rw (columns k y known .sequences-is) refl);
-      sample = λ z t h. by-audio (read .audio) (audio z) (λ y known. sample-out (read .audio) y known (audio z) t h ∙ rw (columns k y known .sequences-is) refl);
+      count = λ z.
+          by-audio (read .audio) (audio z) (λ y known.
+          count-is (read .audio) y known (audio z) ∙ count-out y f c ∙ rw (columns k y known .sequences-is) refl);
+      sample = λ z t h.
+          by-audio (read .audio) (audio z) (λ y known.
+          sample-out (read .audio) y known (audio z) t h ∙ rw (columns k y known .sequences-is) refl);
       rest = λ z. by-audio (read .audio) (audio z) (λ y known. rest-out (read .audio) y known (audio z));
       size = length-out (read .audio);
       macroblock = λ z h q g m hh hq hg hm e. part-out k f b (sym (read .number .answer) ∙ z) h q g m hh hq hg hm e (read .part);
