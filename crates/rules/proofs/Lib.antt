@@ -25,6 +25,8 @@ pub mod Salvage
 pub mod Write
 pub mod Known
 pub mod Paper
+pub mod Tables
+pub mod Grounds
 pub mod Numbers
 pub mod Answering
 pub mod ReadingBack

@@ -66,6 +66,9 @@ number-below P50 = omega arith
 pub known-below : (k : ℕ) (y : System) → systemOf k ≡ Known y → k < 4
 known-below k y e = by-lt k 4 (λ l. l) (λ g. absurd (omega (arith, number-below y, ap said (sym (system-above k (omega arith)) ∙ e))))
 
+pub none-above : (k : ℕ) → systemOf k ≡ NoSystem → 3 < k
+none-above k e = by-lt k 4 (λ l. absurd (omega (arith, said-below k l, ap said e))) (λ g. g)
+
 pub columns : (k : ℕ) (y : System) → systemOf k ≡ Known y → Columns k y
 columns k y e = subst (λ (j : ℕ). Columns j y) (sym (ap said e) ∙ said-below k (known-below k y e)) (columns-at y)
 
