@@ -21,19 +21,19 @@ use Rattle.rules.specs.Systems.{sequencesOf, halfOf, rateOf, stypeOf, sy
 use Rattle.rules.specs.Places.{placeIn}
 use Rattle.rules.specs.Blocks.{sequenceAt, blockIn}
 use Rattle.rules.specs.Header.{flagged}
-use Rattle.rules.specs.Vaux.{vsOk}
+use Rattle.rules.specs.Vaux.{vsAt, vsOk}
 use Rattle.rules.specs.Faults.{faultAt}
 use Rattle.rules.specs.Stream.{blocksIn, nthBlock, channelAt, dseqAt, placeAt, named}
 use Rattle.rules.specs.Check.{everySequence, headerIn, vsIn, dsfAgrees, vsAgrees, unflagged, faultIn}
 use Rattle.rules.specs.Paper.{sequences, rate, stype, byteAt, faultOf, vauxPlace, vauxByte, vsPack}
-use Rattle.rules.specs.Refusals.{Table, _if_, _else_, FirstFault, Some, WrongDsf, WrongVs, Flagged}
+use Rattle.rules.specs.Refusals.{Table, _if_, _else_, FirstFault, Some, WrongDsf, WrongVs, Flagged, vsByte}
 use Rattle.rules.proofs.Paper.{Columns, columns, fault-is, byte-in}
 use Rattle.rules.proofs.Tables.{Exactly, row-exactly, row-fault}
 use Rattle.rules.proofs.Vaux.{vs-means, vs-when, vs-below}
 use Rattle.rules.proofs.Faults.{faults-stream}
 use Rattle.rules.proofs.Check.{every-means, every-some, unnamed-none, fault-first, fault-none}
 
-clash : {b : Bool} → b ≡ true → b ≡ false → ⊥
+pub clash : {b : Bool} → b ≡ true → b ≡ false → ⊥
 clash t f = let z : _≡_ {A = ℕ} 0 1 = cc in omega arith
 
 -- a frame of system k
@@ -42,7 +42,7 @@ module _ (k : ℕ) (y : System) (known : systemOf k ≡ Known y) (f : List ℕ) 
   cols = columns k y known
 
   -- byte i of the block at place p of a sequence
-  byte-here : (h q p i : ℕ) → p < 150 → i < 80 → getD (blockIn (sequenceAt y f h q) p) i 0 ≡ byteAt (sequences k) f h q p i
+  pub byte-here : (h q p i : ℕ) → p < 150 → i < 80 → getD (blockIn (sequenceAt y f h q) p) i 0 ≡ byteAt (sequences k) f h q p i
   byte-here h q p i hp hi = byte-in y f h q p i hi hp ∙ ap (λ (n : ℕ). byteAt n f h q p i) (sym (cols .sequences-is))
 
   -- ---- 11 to 15
@@ -74,7 +74,7 @@ module _ (k : ℕ) (y : System) (known : systemOf k ≡ Known y) (f : List ℕ) 
         (λ e. one m (omega arith) before e))
         (λ j l before e. one j (omega arith) before e)
 
-    fault-given : faultIn y f ≢ 0 → FirstFault (sequences k) f (faultIn y f)
+    pub fault-given : faultIn y f ≢ 0 → FirstFault (sequences k) f (faultIn y f)
     fault-given d =
         first-or (blocksIn y)
         (λ all. absurd (d (fault-none y f (faults-stream y f ∙ unnamed-none y f (blocksIn y) all))))
@@ -86,7 +86,7 @@ module _ (k : ℕ) (y : System) (known : systemOf k ≡ Known y) (f : List ℕ) 
           some = d;
         })
 
-    fault-only : (r : ℕ) → FirstFault (sequences k) f r → (r ≢ 0) × (r ≡ faultIn y f)
+    pub fault-only : (r : ℕ) → FirstFault (sequences k) f r → (r ≢ 0) × (r ≡ faultIn y f)
     fault-only r g =
         let l : g .j < blocksIn y = omega (arith, g .within, cols .sequences-is) in
         let e : named y f (g .j) ≡ false = ne-eqb _ _ (λ z. g .some (g .is ∙ sym (nth-fault (g .j) l) ∙ z)) in
@@ -94,7 +94,7 @@ module _ (k : ℕ) (y : System) (known : systemOf k ≡ Known y) (f : List ℕ) 
 
   -- ---- a condition on the sequences of the frame
 
-  every-exactly : (number : ℕ) (Is : ℕ → ℕ → Type 0) (test : ℕ → List ℕ → Bool) (table : Table) (rows : List Refusal)
+  pub every-exactly : (number : ℕ) (Is : ℕ → ℕ → Type 0) (test : ℕ → List ℕ → Bool) (table : Table) (rows : List Refusal)
       → ((h q : ℕ) → test q (sequenceAt y f h q) ≡ false → Is h q)
       → ((h q : ℕ) → test q (sequenceAt y f h q) ≡ true → Is h q → ⊥)
       → (everySequence y f test ≡ true → Exactly table (firstOf rows))
@@ -109,10 +109,10 @@ module _ (k : ℕ) (y : System) (known : systemOf k ≡ Known y) (f : List ℕ) 
 
   -- ---- 21
 
-  dsf-wrong : (h q : ℕ) → dsfAgrees y q (sequenceAt y f h q) ≡ false → WrongDsf k f h q
+  pub dsf-wrong : (h q : ℕ) → dsfAgrees y q (sequenceAt y f h q) ≡ false → WrongDsf k f h q
   dsf-wrong h q e z = eqb-false _ _ e (ap (λ (b : ℕ). b / 128) (byte-here h q 0 3 (omega arith) (omega arith)) ∙ z ∙ cols .rate-is)
 
-  dsf-right : (h q : ℕ) → dsfAgrees y q (sequenceAt y f h q) ≡ true → WrongDsf k f h q → ⊥
+  pub dsf-right : (h q : ℕ) → dsfAgrees y q (sequenceAt y f h q) ≡ true → WrongDsf k f h q → ⊥
   dsf-right h q e d = d (sym (ap (λ (b : ℕ). b / 128) (byte-here h q 0 3 (omega arith) (omega arith))) ∙ eqb-true _ _ e ∙ sym (cols .rate-is))
 
   -- ---- 23, and the flag of 22
@@ -120,31 +120,28 @@ module _ (k : ℕ) (y : System) (known : systemOf k ≡ Known y) (f : List ℕ) 
   flag-is : (i h q : ℕ) → i < 4 → getD (headerIn (sequenceAt y f h q)) (4 + i) 0 / 128 ≡ byteAt (sequences k) f h q 0 (4 + i) / 128
   flag-is i h q hi = ap (λ (b : ℕ). b / 128) (byte-here h q 0 (4 + i) (omega arith) (omega arith))
 
-  flag-wrong : (i h q : ℕ) → i < 4 → unflagged i q (sequenceAt y f h q) ≡ false → Flagged (4 + i) (sequences k) f h q
+  pub flag-wrong : (i h q : ℕ) → i < 4 → unflagged i q (sequenceAt y f h q) ≡ false → Flagged (4 + i) (sequences k) f h q
   flag-wrong i h q hi e = sym (flag-is i h q hi) ∙ eqb-true _ _ (not-false _ e)
 
-  flag-right : (i h q : ℕ) → i < 4 → unflagged i q (sequenceAt y f h q) ≡ true → Flagged (4 + i) (sequences k) f h q → ⊥
+  pub flag-right : (i h q : ℕ) → i < 4 → unflagged i q (sequenceAt y f h q) ≡ true → Flagged (4 + i) (sequences k) f h q → ⊥
   flag-right i h q hi e z = eqb-false _ _ (not-true _ e) (flag-is i h q hi ∙ z)
 
   -- ---- 22
 
-  vs-same : (q : ℕ) → Rattle.rules.specs.Vaux.vsAt q ≡ vsPack q
-  unfolding Rattle.rules.specs.Vaux.vsAt vsPack
+  vs-same : (q : ℕ) → vsAt q ≡ vsPack q
+  unfolding vsAt vsPack
   vs-same q = refl
 
   abbrev vs : ℕ → ℕ → Pack
   vs h q = vsIn q (sequenceAt y f h q)
 
-  abbrev vsByte : ℕ → ℕ → ℕ → ℕ
-  vsByte h q i = byteAt (sequences k) f h q (vauxPlace (vsPack q)) (vauxByte (vsPack q) + i)
-
-  vs-0 : (h q : ℕ) → vs h q .pc0 ≡ vsByte h q 0
+  vs-0 : (h q : ℕ) → vs h q .pc0 ≡ vsByte (sequences k) f h q 0
   vs-0 h q = rw (vs-same q, add-zero) (byte-here h q (vauxPlace (vsPack q)) (vauxByte (vsPack q)) (omega (arith, vs-below q, vs-same q)) (omega arith))
 
-  vs-3 : (h q : ℕ) → vs h q .pc3 ≡ vsByte h q 3
+  vs-3 : (h q : ℕ) → vs h q .pc3 ≡ vsByte (sequences k) f h q 3
   vs-3 h q = rw (vs-same q) (byte-here h q (vauxPlace (vsPack q)) (vauxByte (vsPack q) + 3) (omega (arith, vs-below q, vs-same q)) (omega arith))
 
-  vs-wrong : (h q : ℕ) → vsAgrees y q (sequenceAt y f h q) ≡ false → WrongVs k f h q
+  pub vs-wrong : (h q : ℕ) → vsAgrees y q (sequenceAt y f h q) ≡ false → WrongVs k f h q
   vs-wrong h q e =
       let two = neither (flagged 2 (headerIn (sequenceAt y f h q))) (vsOk y (vs h q)) e in
       record {
@@ -161,7 +158,7 @@ module _ (k : ℕ) (y : System) (known : systemOf k ≡ Known y) (f : List ℕ) 
             (λ d. inl (λ z. d (vs-0 h q ∙ z)));
       }
 
-  vs-right : (h q : ℕ) → vsAgrees y q (sequenceAt y f h q) ≡ true → WrongVs k f h q → ⊥
+  pub vs-right : (h q : ℕ) → vsAgrees y q (sequenceAt y f h q) ≡ true → WrongVs k f h q → ⊥
   vs-right h q e w =
       by-bool (flagged 2 (headerIn (sequenceAt y f h q)))
       (λ t. w .valid (sym (flag-is 2 h q (omega arith)) ∙ eqb-true _ _ t))

@@ -27,6 +27,8 @@ pub mod Known
 pub mod Paper
 pub mod Tables
 pub mod Grounds
+pub mod GroundsAudio
+pub mod GroundsTime
 pub mod Numbers
 pub mod Answering
 pub mod ReadingBack

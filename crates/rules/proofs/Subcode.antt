@@ -49,11 +49,11 @@ pub record Positions (k : ℕ) : Type 0 where
   pub second-time : isTime (kindOf false k) ≡ (eqb k 3 || eqb k 9)
   pub second-group : isGroup (kindOf false k) ≡ false
 
-agree : Bool → Bool → Bool
+unfoldable pub agree : Bool → Bool → Bool
 agree true b = b
 agree false b = not b
 
-agree-same : (a b : Bool) → T (agree a b) → a ≡ b
+pub agree-same : (a b : Bool) → T (agree a b) → a ≡ b
 unfolding agree
 agree-same true true t = refl
 agree-same false false t = refl
