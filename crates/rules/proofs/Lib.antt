@@ -29,6 +29,7 @@ pub mod Tables
 pub mod Grounds
 pub mod GroundsAudio
 pub mod GroundsTime
+pub mod Refusals
 pub mod Numbers
 pub mod Answering
 pub mod ReadingBack
