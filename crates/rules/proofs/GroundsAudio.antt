@@ -169,6 +169,7 @@ module _ (k : ℕ) (y : System) (known : systemOf k ≡ Known y) (f : List ℕ) 
     where
       said : (r : ℕ) → countSaid (sequences k) f (difOf c) (soundFirst (sequences k) c + r) ≡ countIn (source (firstOfHalf y c + r))
       said r = rw first-is (count-is (firstOfHalf y c + r))
+
       same : not (everyRow y f c (countIs (countFor y f c))) ≡ false → (r : ℕ) → r < sequences k / 2
           → countSaid (sequences k) f (difOf c) (soundFirst (sequences k) c + r) ≡ countFor y f c
       same e r l =

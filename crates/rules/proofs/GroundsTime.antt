@@ -161,10 +161,11 @@ second-group j h = agree-same _ _ (below-at (λ i. agree false (isGroup (kindOf 
 
 one-below : (j : ℕ) → 12 ≤ j → (isOneOf (3 ∷ 5 ∷ 9 ∷ 11 ∷ []) j ≡ false) × (isOneOf (3 ∷ 9 ∷ []) j ≡ false) × (isOneOf (4 ∷ 10 ∷ []) j ≡ false)
 one-below j h =
-    let other : (x : ℕ) → x < 12 → eqb j x ≡ false = λ x l. ne-eqb j x (λ e. omega arith) in
-    (rw (other 3 (omega arith), other 5 (omega arith), other 9 (omega arith), other 11 (omega arith)) refl,
-     rw (other 3 (omega arith), other 9 (omega arith)) refl,
-     rw (other 4 (omega arith), other 10 (omega arith)) refl)
+    let other : (x : ℕ) → x < 12 → eqb j x ≡ false = λ x l. ne-eqb j x (λ e. omega arith) in (
+      rw (other 3 (omega arith), other 5 (omega arith), other 9 (omega arith), other 11 (omega arith)) refl,
+      rw (other 3 (omega arith), other 9 (omega arith)) refl,
+      rw (other 4 (omega arith), other 10 (omega arith)) refl,
+    )
 
 is-time : (kind : SubcodePack) → isTime kind ≡ true → kind ≡ TimeCode
 is-time TimeCode e = refl
@@ -257,10 +258,12 @@ module _ (k : ℕ) (y : System) (known : systemOf k ≡ Known y) (f : List ℕ) 
           wrongGroupHeader)
           wrongDigit)
           wrongTimeHeader
+
       broken : (packAt 0 0 3 .pc0 ≡ 0x13) → Clock y (packAt 0 0 3) → (packAt 0 0 4 .pc0 ≡ 0x14) → WrongFirst k f → ⊥
       broken header clock group (wrongTimeHeader d) = d header
       broken header clock group (wrongDigit w) = clock-clash k y known (packAt 0 0 3) clock w
       broken header clock group (wrongGroupHeader d) = d group
+
       right : (timeOk y (packAt 0 0 3) && groupOk (packAt 0 0 4)) ≡ true → WrongFirst k f → ⊥
       right e =
           let two = both-held (timeOk y (packAt 0 0 3)) (groupOk (packAt 0 0 4)) e in

@@ -70,6 +70,7 @@ row-fault row table x rows given one rest =
   where
     off : x ≡ 0 → not (eqb x 0) ≡ false
     off z = rw (eq-eqb x 0 z) refl
+
     on : x ≢ 0 → not (eqb x 0) ≡ true
     on d = rw (ne-eqb x 0 d) refl
 
@@ -80,8 +81,10 @@ row-system k table rows rest = by-number (systemOf k) refl
   where
     no-true : isNoSystem NoSystem ≡ false → ⊥
     no-true t = let z : _≡_ {A = ℕ} 0 1 = cc in omega arith
+
     no-false : (y : System) → isNoSystem (Known y) ≡ true → ⊥
     no-false y t = let z : _≡_ {A = ℕ} 0 1 = cc in omega arith
+
     by-number : (s : SystemNumber) → systemOf k ≡ s → Exactly (1 if (3 < k) else table) (firstOf (1 when isNoSystem s ∷ rows s))
     by-number (Known y) e = row-exactly 1 (isNoSystem (Known y)) table (rows (Known y)) (λ t. absurd (no-false y t)) (λ t above. omega (arith, known-below k y e)) (λ t. rest y e)
     by-number NoSystem e =
