@@ -25,6 +25,11 @@ pub mod Salvage
 pub mod Write
 pub mod Known
 pub mod Paper
+pub mod Tables
+pub mod Grounds
+pub mod GroundsAudio
+pub mod GroundsTime
+pub mod Refusals
 pub mod Numbers
 pub mod Answering
 pub mod ReadingOut

@@ -70,6 +70,9 @@ known-below k y e = by-lt k 4 (λ l. l) (λ g. absurd (omega (arith, number-belo
 pub number-known : (k : ℕ) (y : System) → systemOf k ≡ Known y → k ≡ numberOfSystem y
 number-known k y e = sym (said-below k (known-below k y e)) ∙ ap said e
 
+pub none-above : (k : ℕ) → systemOf k ≡ NoSystem → 3 < k
+none-above k e = by-lt k 4 (λ l. absurd (omega (arith, said-below k l, ap said e))) (λ g. g)
+
 pub columns : (k : ℕ) (y : System) → systemOf k ≡ Known y → Columns k y
 columns k y e = subst (λ (j : ℕ). Columns j y) (sym (number-known k y e)) (columns-at y)
 
@@ -83,7 +86,7 @@ by-system {P} k none some = by-number (systemOf k) refl
 
 -- and each of 0 to 3 says one
 pub known-system : {P : Type 0} (k : ℕ) → k < 4 → ((y : System) → systemOf k ≡ Known y → P) → P
-known-system k h f = by-system k (λ e. absurd (omega (arith, said-below k h, ap said e))) f
+known-system k h f = by-system k (λ e. absurd (omega (arith, h, none-above k e))) f
 
 -- ---- figure 3
 
