@@ -18,7 +18,6 @@ use Rattle.rules.specs.declared.SystemNumber.the-variants.{Known}
 use Rattle.rules.specs.declared.Section.{Section}
 use Rattle.rules.specs.declared.Section.the-variants.{Header, Subcode, Vaux, Audio, Video}
 use Rattle.rules.specs.declared.Pack.{Pack}
-use Rattle.rules.specs.declared.Carried.the-variants.{Macroblock, Nothing}
 use Rattle.rules.specs.Systems.{sequencesOf, halfOf, positionsOf, isCount, systemOf}
 use Rattle.rules.specs.Places.{blocksOf, placeIn}
 use Rattle.rules.specs.Ids.{idBytes}
@@ -34,9 +33,9 @@ use Rattle.rules.specs.Picture.{slot}
 use Rattle.rules.specs.Time.{fourBytes}
 use Rattle.rules.specs.Written.{Lent, storedWord, audioBytes, payload, entryBlock, writtenBlock, writtenFrame}
 use Rattle.rules.specs.Write.{Wrote, Takes}
-use Rattle.rules.specs.Paper.{sequences, rate, start, byteAt, bytesAt, soundStart, soundWord, wordOf, asPack, countBy, countSaid, slotPlace, carried}
+use Rattle.rules.specs.Paper.{sequences, start, byteAt, bytesAt, soundStart, soundWord, wordOf, asPack, countBy, countSaid}
 use Rattle.rules.specs.Refusals.{OwnCount}
-use Rattle.rules.specs.Form.{cut, idForm, headerForm, ssybForm, vauxForm, aauxForm, HasForm}
+use Rattle.rules.specs.Form.{cut, idForm, headerForm, vauxForm, HasForm}
 use Rattle.rules.specs.Demand2.{given, LaidOut, WritesBack}
 use Rattle.rules.proofs.Systems.{count-cases, count-below, sequences-le, sequences-some}
 use Rattle.rules.proofs.Packs.{taken-means}
