@@ -1,7 +1,7 @@
 -- The workshop of the second demand: what is read of any ID and any frame, in document 01's numbers and bytes. Assumes nothing.
 use mathlib.Core.Path.{_≡_, refl, sym, ap, ap₂, _∙_}
 use mathlib.Core.List.{List, [], _∷_}
-use Prim.Native.Nat.{ℕ, _+_, _*_, _%_, _<_}
+use Prim.Native.Nat.{ℕ, _+_, _*_, _<_}
 use native.Mathlib.Omega.{arith}
 use borrow.Author.Tests.{eq-eqb}
 use lib.Dec.{eqb, eqb→eq}
@@ -25,24 +25,21 @@ use Rattle.rules.specs.declared.Part.{Part}
 use Rattle.rules.specs.declared.AudioAnswer.{AudioAnswer}
 use Rattle.rules.specs.declared.TimeAnswer.{TimeAnswer}
 use Rattle.rules.specs.declared.Carried.the-variants.{Macroblock}
-use Rattle.rules.specs.Systems.{sequencesOf, halfOf, rateOf, systemOf}
+use Rattle.rules.specs.Systems.{sequencesOf, rateOf, systemOf}
 use Rattle.rules.specs.Places.{codeOf, sectionOf}
 use Rattle.rules.specs.Ids.{namedBy}
 use Rattle.rules.specs.Blocks.{blockAt, sequenceAt, blockIn}
-use Rattle.rules.specs.Aaux.{asAt, countOf}
 use Rattle.rules.specs.Samples.{numberOf}
-use Rattle.rules.specs.Sound.{difOf}
 use Rattle.rules.specs.Picture.{slot, carriedIn}
 use Rattle.rules.specs.ReadId.{idNumber, idSays, IdRead, IdSaid}
 use Rattle.rules.specs.View.{viewNumber, viewAt, ViewNumbered, Viewed, ViewLies}
 use Rattle.rules.specs.Reading.{readSample}
-use Rattle.rules.specs.Audio.{firstOfHalf, countFor, audioNumber, AudioRead}
+use Rattle.rules.specs.Audio.{countFor, audioNumber, AudioRead}
 use Rattle.rules.specs.Macroblock.{macroblockNumber, slotBytes, macroblockAt, slotStart, carrierStart, MacroblockRead, MacroblockLies}
 use Rattle.rules.specs.Time.{withBit6, settled, timeFirst, groupFirst, fourBytes, timeNumber, TimeRead}
-use Rattle.rules.specs.Paper.{sequences, start, byteAt, bytesAt, soundChannel, soundFirst, soundWord, heard, asPack, countBy, countSaid, slotPlace, carried}
+use Rattle.rules.specs.Paper.{sequences, start, byteAt, bytesAt, soundWord, heard, slotPlace, carried}
 use Rattle.rules.specs.Demand2.{IdOut, ViewOut, MacroblockOut, Strict, StrictlyRead, ReadOut, answered}
 use Rattle.rules.proofs.Places.{code-one, code-section}
-use Rattle.rules.proofs.Aaux.{as-below}
 use Rattle.rules.proofs.Blocks.{block-in-sequence, block-length, part-taken}
 use Rattle.rules.proofs.Systems.{sequences-some}
 use Rattle.rules.proofs.Calls.{read-id-4, read-id-11, read-id-0, view-1, view-taken, view-lies-number}
@@ -53,6 +50,7 @@ use Rattle.rules.proofs.Picture.{carried-lies}
 use Rattle.rules.proofs.Answering.{says-number, audio-number, time-number}
 use Rattle.rules.proofs.Paper.{columns, by-system, channel-by, byte-in, bytes-at, block-bytes, rest-bytes}
 use Rattle.rules.proofs.Numbers.{sound-heard, carried-is}
+use Rattle.rules.proofs.GroundsAudio.{count-first}
 
 -- ---- read_id
 
@@ -98,13 +96,6 @@ module _ {k : ℕ} {f : List ℕ} {h q : ℕ} {p : Place} where
   }
 
 -- ---- read_audio
-
-module _ (y : System) (f : List ℕ) where
-  count-out : (c : ℕ) → countFor y f c ≡ countSaid (sequencesOf y) f (soundChannel c) (soundFirst (sequencesOf y) c)
-  unfolding countFor halfOf asAt asPack countOf countBy
-  count-out c =
-      let q = firstOfHalf y c in
-      ap (λ (b : ℕ). countOf (b % 64)) (byte-in y f (difOf c) q (6 + 16 * asAt q) 4 (omega arith) (omega (arith, as-below q)))
 
 module _ {k : ℕ} {f : List ℕ} {c : ℕ} {samples samples′ : List ℤ} {r : AudioAnswer} (read : AudioRead k f c samples r samples′) where
   -- where it goes through
@@ -221,9 +212,7 @@ read-out {k} {f} {c} {samples} {b} {o} read =
     let audio : o .audio .number ≡ 0 → audioNumber k f c (length samples) ≡ 0 = λ z. sym (audio-number k f c samples (read .audio)) ∙ z in
     let time : o .time .number ≡ 0 → timeNumber k f ≡ 0 = λ z. sym (time-number k f (read .time)) ∙ z in
     record {
-      count = λ z.
-          by-audio (read .audio) (audio z) (λ y known.
-          count-is (read .audio) y known (audio z) ∙ count-out y f c ∙ rw (columns k y known .sequences-is) refl);
+      count = λ z. by-audio (read .audio) (audio z) (λ y known. count-is (read .audio) y known (audio z) ∙ count-first k y known f c);
       sample = λ z t h.
           by-audio (read .audio) (audio z) (λ y known.
           sample-out (read .audio) y known (audio z) t h ∙ rw (columns k y known .sequences-is) refl);
