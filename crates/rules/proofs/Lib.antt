@@ -40,4 +40,5 @@ pub mod Form
 pub mod Salvaging
 pub mod Salvages
 pub mod Worthless
+pub mod Stopped
 pub mod Demands

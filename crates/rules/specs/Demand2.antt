@@ -6,7 +6,7 @@ use mathlib.Core.Logic.{_≢_}
 use Prim.Native.Nat.{ℕ, _+_, _-_, _*_, _/_, _%_, _≤_, _<_}
 use lib.Dec.{eqb}
 use lib.IntN.{ℤ, pos}
-use lib.ListN.{length, getD, take, drop}
+use lib.ListN.{length, getD, take, drop, replicate}
 use Rattle.base.specs.Pick.{pick}
 use Rattle.rules.specs.declared.Section.{Section}
 use Rattle.rules.specs.declared.Section.the-variants.{Header, Subcode, Vaux, Audio, Video}
@@ -123,3 +123,14 @@ pub record WritesBack (k : ℕ) (l : Lent) (f : List ℕ) : Type 0 where
   pub laid-out : LaidOut k l f
   pub reads-back : (c : ℕ) (samples : List ℤ) (b : ℕ) (o : Strict) → 0 < c → c < 9 → length samples ≡ positions k → b < macroblocks k
       → StrictlyRead k f c samples b o → ReadsBack l c samples b o
+
+-- ---- what may be lent for a system and a count: one level throughout, and time 0
+
+abbrev pub tone : ℕ → ℕ → ℕ → Lent
+tone k count level = record {
+  count = count;
+  sound = replicate (8 * count) (pos level);
+  macroblocks = replicate (77 * macroblocks k) 0;
+  timeCode = 0x40 ∷ 0 ∷ 0 ∷ 0 ∷ [];
+  binaryGroup = 0 ∷ 0 ∷ 0 ∷ 0 ∷ [];
+}
