@@ -42,11 +42,11 @@ use Rattle.rules.proofs.Packs.{taken-means}
 use Rattle.rules.proofs.Subcode.{ssyb-length, subcode-rest, first-when}
 use Rattle.rules.proofs.Vaux.{vaux-rest}
 use Rattle.rules.proofs.Aaux.{size-below, as-count}
-use Rattle.rules.proofs.Samples.{bytes-word}
+use Rattle.rules.proofs.Samples.{word-is, back-is, bytes-word}
 use Rattle.rules.proofs.Picture.{carried-lies}
 use Rattle.rules.proofs.Written.{payload-length, frame-length, frame-block, frame-payload, frame-high, frame-low, given-in, stored-word, stored-tail, frame-macroblock, frame-empty}
 use Rattle.rules.proofs.Paper.{Columns, columns}
-use Rattle.rules.proofs.Numbers.{word-is, back-is, sound-high, sound-low, carried-is}
+use Rattle.rules.proofs.Numbers.{sound-high, sound-low, carried-is}
 use Rattle.rules.proofs.Write.{write-takes, write-taken}
 use Rattle.rules.proofs.ReadingBack
 use Rattle.rules.proofs.ReadingBack.{four-again}

@@ -1,19 +1,18 @@
 -- The rules that the demands stand on, in document 01's own numbers. Assumes nothing.
 use mathlib.Core.Path.{_≡_, refl, sym, ap, _∙_}
-use mathlib.Core.Bool.{true, _||_}
+use mathlib.Core.Bool.{_||_}
 use mathlib.Core.List.{List, [], _∷_}
-use Prim.Native.Nat.{ℕ, suc, _+_, _-_, _*_, _/_, _%_, _≤_, _<_}
+use Prim.Native.Nat.{ℕ, _+_, _*_, _/_, _%_, _≤_, _<_}
 use native.Mathlib.Nat.{mul-add-div, div-eq-of-lt, mul-add-mod-self-left, mod-eq-of-lt}
 use native.Mathlib.Omega.{arith}
-use borrow.Author.Tests.{eqb-true, eqb-false, ne-eqb, lt-ltb, le-ltb, leb-true, le-leb, lt-leb}
+use borrow.Author.Tests.{eqb-true, eqb-false, lt-ltb}
 use lib.Dec.{eqb, ltb, leb}
-use lib.IntN.{ℤ, pos, negsuc}
+use lib.IntN.{pos, negsuc}
 use lib.ListN.{getD, take, drop, List·getD-eq-default}
 use lib.Seq.{getD-take, getD-drop}
 use Rattle.base.specs.Pick.{pick}
 use Rattle.base.specs.Run.{run, tab}
-use Rattle.base.proofs.Cases.{by-bool, by-lt, by-eq}
-use Rattle.base.proofs.Picks.{both-held}
+use Rattle.base.proofs.Cases.{by-bool, by-lt}
 use Rattle.rules.specs.declared.System.{System}
 use Rattle.rules.specs.declared.System.the-variants.{I60, I50, P60, P50}
 use Rattle.rules.specs.declared.SystemNumber.the-variants.{Known}
@@ -21,7 +20,7 @@ use Rattle.rules.specs.declared.Carried.the-variants.{Macroblock, Nothin
 use Rattle.rules.specs.Systems.{sequencesOf, halfOf, positionsOf, isCount, systemOf}
 use Rattle.rules.specs.Places.{codeOf, sectionOf, place, places, entryAt}
 use Rattle.rules.specs.Blocks.{blockAt}
-use Rattle.rules.specs.Samples.{numberOf, inRange, sampleIn, sampleOf, wordIn, wordFor, wordAt, backOf}
+use Rattle.rules.specs.Samples.{numberOf, inRange, wordAt}
 use Rattle.rules.specs.Samples
 use Rattle.rules.specs.Sound.{difOf, rowOf, sequenceOf, soundPlace, byteOf}
 use Rattle.rules.specs.Picture.{slot, tenCarries, elevenCarries, carriedIn}
@@ -29,11 +28,12 @@ use Rattle.rules.specs.Faults.{names}
 use Rattle.rules.specs.Stream.{named}
 use Rattle.rules.specs.Reading.{soundBlock, soundNamed, readSample}
 use Rattle.rules.specs.Paper
-use Rattle.rules.specs.Paper.{soundStart, soundWord, heard, wordOf, back, tenRows, elevenRows, carried, macroblocks, figure3}
+use Rattle.rules.specs.Paper.{soundStart, soundWord, heard, tenRows, elevenRows, carried, macroblocks, figure3}
 use Rattle.rules.specs.Numbers.{SlotOf, InNumbers}
 use Rattle.rules.proofs.Systems.{system-number, system-above, half-cases, half-twice, positions-half, sequences-some}
 use Rattle.rules.proofs.Ids.{channel-pairs}
 use Rattle.rules.proofs.Blocks.{start-within}
+use Rattle.rules.proofs.Samples.{heard-is, word-is, back-is}
 use Rattle.rules.proofs.Sound.{row-below, audio-below, word-below, sequence-below}
 use Rattle.rules.proofs.Picture.{within-there, carrier-one, carried-inside}
 use Rattle.rules.proofs.Faults.{fault-names, names-fault}
@@ -62,47 +62,6 @@ count-50 P50 k e = count-twice k
 range-numbers : (n : ℕ) → (inRange (pos n) ≡ leb n 32768) × (inRange (negsuc n) ≡ leb n 32767)
 unfolding inRange
 range-numbers n = (refl, by-bool (leb n 32767) (λ e. rw e refl) (λ e. rw e refl))
-
--- ---- wordFor, backOf: a number that is given, as its word and as it comes back
-
-pub word-is : (z : ℤ) → inRange z ≡ true → wordFor z ≡ wordOf z
-unfolding inRange sampleIn wordIn Samples.wordOf wordOf pick
-word-is (pos n) e =
-    let h : n ≤ 32768 = leb-true n 32768 e in
-    by-eq n 32768
-    (λ q. rw q refl)
-    (λ d. rw (e, lt-leb 32768 n (omega (arith, d)), ne-eqb n 32768 d) refl)
-word-is (negsuc n) e =
-    let h : n ≤ 32767 = leb-true n 32767 (both-held (leb n 32767) true e .0) in
-    by-eq n 32767
-    (λ q. rw q refl)
-    (λ d.
-    let other : 65536 - suc n ≡ 32768 → ⊥ = λ q. d (omega arith) in
-    let same : 65536 - suc n ≡ 0xFFFF - n = omega arith in
-    rw (le-leb n 32767 h, ne-eqb (65536 - suc n) 32768 other, ne-eqb n 32767 d) same)
-
-pub back-is : (z : ℤ) → inRange z ≡ true → backOf z ≡ back z
-unfolding inRange backOf back pick
-back-is (pos n) e = refl
-back-is (negsuc n) e =
-    let h : n ≤ 32767 = leb-true n 32767 (both-held (leb n 32767) true e .0) in
-    by-eq n 32767
-    (λ q. rw q refl)
-    (λ d. rw (lt-leb 32767 n (omega (arith, d)), ne-eqb n 32767 d) refl)
-
--- ---- sampleOf: what a word says
-
-pub heard-is : (w : ℕ) → numberOf (sampleOf w) ≡ heard w
-unfolding sampleOf heard pick
-heard-is w =
-    by-eq w 0x8000
-    (λ q. rw q refl)
-    (λ d.
-    by-lt w 0x8000
-    (λ l. rw (ne-eqb w 0x8000 d, lt-ltb w 0x8000 l, le-leb w 0x8000 (omega arith)) refl)
-    (λ g.
-    let same : 65536 - suc w ≡ 0xFFFF - w = omega arith in
-    rw (ne-eqb w 0x8000 d, le-ltb w 0x8000 g, lt-leb w 0x8000 (omega (arith, d)), same) refl))
 
 -- ---- soundBlock, soundNamed: the block of a position, its word
 

@@ -27,14 +27,14 @@ use Rattle.rules.specs.Paper
 use Rattle.rules.specs.Paper.{sequences, positions}
 use Rattle.rules.specs.Demand2.{given}
 use Rattle.rules.specs.Demand3.{stored, blockOf, faultFor, SampleSalvaged, Salvages}
-use Rattle.rules.proofs.Samples.{silence}
+use Rattle.rules.proofs.Samples.{back-is, silence}
 use Rattle.rules.proofs.Written.{frame-length, sound-names, given-in, stored-given, stored-tail}
 use Rattle.rules.proofs.Back.{sample-written}
 use Rattle.rules.proofs.Salvage.{salvaged-length, position-named, position-lost, salvage-0, salvage-taken}
 use Rattle.rules.proofs.Write.{write-1, write-takes, write-taken}
 use Rattle.rules.proofs.Answering.{survey-number}
 use Rattle.rules.proofs.Paper.{columns, by-system}
-use Rattle.rules.proofs.Numbers.{back-is, sound-block, sound-named, sound-within, sound-heard}
+use Rattle.rules.proofs.Numbers.{sound-block, sound-named, sound-within, sound-heard}
 use Rattle.rules.proofs.Listing.{block-fault, salvage-listed, listed-one}
 
 -- ---- soundNamed: by the fault of the position's block

@@ -1,24 +1,22 @@
 -- Laws of samples: a number that is given, as a sample, as a word, as two bytes, and read again. Assumes nothing.
-use mathlib.Core.Path.{_≡_, refl, _∙_}
+use mathlib.Core.Path.{_≡_, refl, sym, ap, _∙_, subst}
 use mathlib.Core.Bool.{true, false}
-use mathlib.Core.Logic.{⊎-elim}
 use mathlib.Core.List.{List, [], _∷_}
 use Prim.Native.Nat.{ℕ, zero, suc, _-_, _≤_, _<_}
-use native.Mathlib.Nat.{div-add-mod', eq-or-lt-of-le, not-suc-le-zero, le-of-suc-le-suc}
+use native.Mathlib.Nat.{div-add-mod', not-suc-le-zero, le-of-suc-le-suc}
 use native.Mathlib.Omega.{arith}
 use lib.Dec.{leb}
 use lib.ListN.{length, getD}
 use lib.IntN.{ℤ, pos, negsuc}
-use lib.Signed.{leZ}
-use mir.Syntax.{w16}
-use mir.ValLaws.{toZ-pos, toZ-neg}
-use borrow.Author.Tests.{le-leb, lt-leb, ne-eqb, leb-true}
+use borrow.Author.Tests.{lt-ltb, le-ltb, le-leb, lt-leb, ne-eqb, leb-true}
 use Rattle.base.specs.Pick.{pick}
-use Rattle.base.proofs.Cases.{by-bool}
+use Rattle.base.proofs.Cases.{by-bool, by-lt, by-eq}
 use Rattle.base.proofs.Picks.{pick-either, both-held}
 use Rattle.rules.specs.declared.Sample.the-variants.{Level, Lost}
 use Rattle.rules.specs.declared.SampleNumber.the-variants.{NoSample}
-use Rattle.rules.specs.Samples.{lost, numberOf, inRange, sampleIn, allInRange, sampleOf, wordOf, wordIn, wordFor, bytesOf, wordAt, backOf}
+use Rattle.rules.specs.Samples.{numberOf, inRange, sampleIn, allInRange, sampleOf, wordOf, wordIn, wordFor, bytesOf, wordAt, backOf}
+use Rattle.rules.specs.Paper
+use Rattle.rules.specs.Paper.{heard, back}
 
 -- ---- sampleOf, wordOf
 
@@ -55,50 +53,75 @@ pub sample-none : (z : ℤ) → inRange z ≡ false → sampleIn z ≡ NoSample
 unfolding sampleIn pick
 sample-none z e = rw e refl
 
+-- ---- wordFor, backOf in document 01's words: a number that is given, as its word and as it comes back
+
+pub word-is : (z : ℤ) → inRange z ≡ true → wordFor z ≡ Paper.wordOf z
+unfolding inRange sampleIn wordIn wordOf Paper.wordOf pick
+word-is (pos n) e =
+    let h : n ≤ 32768 = leb-true n 32768 e in
+    by-eq n 32768
+    (λ q. rw q refl)
+    (λ d. rw (e, lt-leb 32768 n (omega (arith, d)), ne-eqb n 32768 d) refl)
+word-is (negsuc n) e =
+    let h : n ≤ 32767 = leb-true n 32767 (both-held (leb n 32767) true e .0) in
+    by-eq n 32767
+    (λ q. rw q refl)
+    (λ d.
+    let other : 65536 - suc n ≡ 32768 → ⊥ = λ q. d (omega arith) in
+    let same : 65536 - suc n ≡ 0xFFFF - n = omega arith in
+    rw (le-leb n 32767 h, ne-eqb (65536 - suc n) 32768 other, ne-eqb n 32767 d) same)
+
+pub back-is : (z : ℤ) → inRange z ≡ true → backOf z ≡ back z
+unfolding inRange backOf back pick
+back-is (pos n) e = refl
+back-is (negsuc n) e =
+    let h : n ≤ 32767 = leb-true n 32767 (both-held (leb n 32767) true e .0) in
+    by-eq n 32767
+    (λ q. rw q refl)
+    (λ d. rw (lt-leb 32767 n (omega (arith, d)), ne-eqb n 32767 d) refl)
+
+-- ---- sampleOf in document 01's words
+
+pub heard-is : (w : ℕ) → numberOf (sampleOf w) ≡ heard w
+unfolding sampleOf heard pick
+heard-is w =
+    by-eq w 0x8000
+    (λ q. rw q refl)
+    (λ d.
+    by-lt w 0x8000
+    (λ l. rw (ne-eqb w 0x8000 d, lt-ltb w 0x8000 l, le-leb w 0x8000 (omega arith)) refl)
+    (λ g.
+    let same : 65536 - suc w ≡ 0xFFFF - w = omega arith in
+    rw (ne-eqb w 0x8000 d, le-ltb w 0x8000 g, lt-leb w 0x8000 (omega (arith, d)), same) refl))
+
 -- ---- wordFor: a number comes back, but -32,768 as -32,767
 
-abbrev again : ℤ → ℤ
-again z = numberOf (sampleOf (wordFor z))
-
-level-again : (n : ℕ) → n < 32768 → again (pos n) ≡ pos n
-unfolding sampleIn inRange wordIn wordOf sampleOf pick
-level-again n h = rw (le-leb n 32768 (omega arith), lt-leb 32768 n h, ne-eqb n 32768 (omega arith), ne-eqb n 32768 (omega arith), toZ-pos w16 n h)
-
-below-again : (n : ℕ) → n < 32767 → again (negsuc n) ≡ negsuc n
-unfolding sampleIn inRange wordIn wordOf sampleOf pick
-below-again n h =
-    let k : 65536 - suc n ≡ 32768 → ⊥ = omega arith in
-    let m : n < 32768 = omega arith in
-    rw (le-leb n 32767 (omega arith), ne-eqb (65536 - suc n) 32768 k, ne-eqb (65536 - suc n) 32768 k, toZ-neg w16 n m)
-
-lost-again : again (pos 32768) ≡ pos 32768
-unfolding sampleIn inRange wordIn wordOf sampleOf pick
-lost-again = refl
-
-least-again : again (negsuc 32767) ≡ negsuc 32766
-unfolding sampleIn inRange wordIn wordOf sampleOf pick
-least-again = refl
+heard-again : (z : ℤ) → inRange z ≡ true → heard (Paper.wordOf z) ≡ back z
+unfolding inRange heard Paper.wordOf back pick
+heard-again (pos n) e = rw e refl
+heard-again (negsuc n) e =
+    let h : n ≤ 32767 = leb-true n 32767 (both-held (leb n 32767) true e .0) in
+    by-eq n 32767
+    (λ q. rw q refl)
+    (λ d.
+    let same : 0xFFFF - (0xFFFF - n) ≡ n = omega arith in
+    rw (ne-eqb n 32767 d, lt-leb (0xFFFF - n) 0x8000 (omega (arith, d)), same) refl)
 
 pub number-again : (z : ℤ) → inRange z ≡ true → numberOf (sampleOf (wordFor z)) ≡ backOf z
-unfolding inRange backOf pick
-number-again (pos n) e =
-    ⊎-elim (λ (q : n ≡ 32768). rw q lost-again) (λ (l : n < 32768). level-again n l) (eq-or-lt-of-le (leb-true n 32768 (both-held true (leb n 32768) e .1)))
-number-again (negsuc n) e =
-    let h : n ≤ 32767 = leb-true n 32767 (both-held (leb n 32767) true e .0) in
-    ⊎-elim (λ (q : n ≡ 32767). rw q least-again) (λ (l : n < 32767). below-again n l ∙ rw (lt-leb 32767 n l)) (eq-or-lt-of-le h)
+number-again z e = heard-is (wordFor z) ∙ ap heard (word-is z e) ∙ heard-again z e ∙ sym (back-is z e)
 
 -- a word has 16 bits
-level-below : (z : ℤ) → inRange z ≡ true → wordOf (Level z) < 65536
-unfolding wordOf inRange
-level-below (pos n) e = let k : n ≤ 32768 = leb-true n 32768 e in pick-either (λ w. w < 65536) _ (omega arith) (omega arith)
+level-below : (z : ℤ) → inRange z ≡ true → Paper.wordOf z < 65536
+unfolding Paper.wordOf inRange
+level-below (pos n) e = let k : n ≤ 32768 = leb-true n 32768 e in omega arith
 level-below (negsuc n) e = pick-either (λ w. w < 65536) _ (omega arith) (omega arith)
 
 pub word-below : (z : ℤ) → wordFor z < 65536
-unfolding sampleIn wordIn wordOf pick
+unfolding wordIn
 word-below z =
     by-bool (inRange z)
-    (λ e. by-bool (leZ lost z) (λ f. rw (e, f) (omega arith)) (λ f. rw (e, f) (level-below z e)))
-    (λ e. rw e (omega arith))
+    (λ e. subst (λ (w : ℕ). w < 65536) (sym (word-is z e)) (level-below z e))
+    (λ e. rw (sample-none z e) (omega arith))
 
 -- `backOf` in the paper's numbers
 pub back-least : backOf (negsuc 32767) ≡ negsuc 32766
