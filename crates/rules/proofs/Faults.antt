@@ -1,6 +1,6 @@
 -- Laws of a block's fault, and of the list of all faults. Assumes nothing.
 use mathlib.Core.Path.{_≡_, refl, sym, ap, _∙_}
-use mathlib.Core.Bool.{not}
+use mathlib.Core.Bool.{true, false}
 use mathlib.Core.List.{List, [], _∷_, _++_}
 use mathlib.Core.Logic.{inl, inr}
 use Prim.Native.Nat.{ℕ, zero, suc, _+_, _*_, _/_, _%_, _≤_, _<_}
@@ -8,8 +8,8 @@ use native.Mathlib.Nat.{div-add-mod}
 use native.Mathlib.Omega.{arith}
 use lib.ListN.{length, take, drop, length-append}
 use lib.Seq.{length-take-le}
-use borrow.Author.Tests.{eq-eqb, ne-eqb, eqb-true, not-false}
-use Rattle.base.specs.Calls.{firstOf, _when_}
+use borrow.Author.Tests.{eq-eqb, ne-eqb, eqb-true, eqb-false, not-false}
+use Rattle.base.specs.Calls.{firstOf}
 use Rattle.base.specs.Pick.{pick}
 use Rattle.base.specs.Run.{run}
 use Rattle.base.proofs.Cases.{by-bool}
@@ -76,6 +76,13 @@ pub names-fault : (block : List ℕ) (h q p : ℕ) → NamesPlace block h q p �
 unfolding faultAt faultOf
 names-fault block h q p n =
     rw (n .named) (misnamed-none (n .id) h q (entryAt (place p)) (n .section) (n .channel) (n .dseq) (n .dbn))
+
+-- and so what `names` says
+pub names-place : (block : List ℕ) (h q p : ℕ) → names block h q p ≡ true → NamesPlace block h q p
+names-place block h q p e = fault-names block h q p (eqb-true _ _ e)
+
+pub names-none : (block : List ℕ) (h q p : ℕ) → names block h q p ≡ false → NamesPlace block h q p → ⊥
+names-none block h q p e n = eqb-false _ _ e (names-fault block h q p n)
 
 -- "reserved section"; "section, channel, Dseq, DBN not the place's", the lowest number first
 pub fault-11 : (block : List ℕ) (h q p : ℕ) → blockAnswer block ≡ Reserved → faultAt block h q p ≡ 11

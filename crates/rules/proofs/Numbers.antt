@@ -5,7 +5,7 @@ use mathlib.Core.List.{List, [], _∷_}
 use Prim.Native.Nat.{ℕ, _+_, _*_, _/_, _%_, _≤_, _<_}
 use native.Mathlib.Nat.{mul-add-div, div-eq-of-lt, mul-add-mod-self-left, mod-eq-of-lt}
 use native.Mathlib.Omega.{arith}
-use borrow.Author.Tests.{eqb-true, eqb-false, lt-ltb}
+use borrow.Author.Tests.{lt-ltb}
 use lib.Dec.{eqb, ltb, leb}
 use lib.IntN.{pos, negsuc}
 use lib.ListN.{getD, take, drop, List·getD-eq-default}
@@ -36,7 +36,7 @@ use Rattle.rules.proofs.Blocks.{start-within}
 use Rattle.rules.proofs.Samples.{heard-is, word-is, back-is}
 use Rattle.rules.proofs.Sound.{row-below, audio-below, word-below, sequence-below}
 use Rattle.rules.proofs.Picture.{within-there, carrier-one, carried-inside}
-use Rattle.rules.proofs.Faults.{fault-names, names-fault}
+use Rattle.rules.proofs.Faults.{names-place, names-none}
 use Rattle.rules.proofs.Paper.{columns, number-known, known-system, fault-is}
 
 -- ---- isCount
@@ -207,8 +207,8 @@ in-numbers = record {
   no-system = system-above;
   sections = (refl, refl, refl, refl, refl);
   channels = channel-pairs;
-  names = λ y g j e. fault-names _ _ _ _ (eqb-true _ _ e);
-  names-not = λ y g j e n. eqb-false _ _ e (names-fault _ _ _ _ n);
+  names = λ y g j e. names-place _ _ _ _ e;
+  names-not = λ y g j e n. names-none _ _ _ _ e n;
   sound = λ y g c t. (sound-named y g c t, sound-block y g c t, sound-byte y g c t);
   range = range-numbers;
   places = places-are;
