@@ -7,7 +7,7 @@ use native.Mathlib.Numerals.{add-one}
 use native.Mathlib.Omega.{arith}
 use lib.Dec.{T}
 use Rattle.base.specs.Below.{below}
-use Rattle.base.proofs.Cases.{by-eq}
+use Rattle.base.proofs.Cases.{by-bool, by-eq}
 use Rattle.base.proofs.Picks.{both-held, both-hold}
 
 -- ---- both of two tests
@@ -55,3 +55,8 @@ below-fails f (suc n) k h e =
     last : (a : Bool) {b : Bool} → b ≡ false → (a && b) ≡ false
     last true q = q
     last false q = refl
+
+-- and where it fails, it fails at one
+pub below-some : {P : Type 0} (f : ℕ → Bool) (n : ℕ) → below f n ≡ false → ((k : ℕ) → k < n → f k ≡ false → P) → P
+below-some f zero e one = let z : _≡_ {A = ℕ} 0 1 = cc in absurd (omega arith)
+below-some f (suc n) e one = by-bool (f n) (λ t. below-some f n (rw t at e) (λ k l. one k (omega arith))) (λ d. one n (omega arith) d)

@@ -1,6 +1,7 @@
--- The workshop of the first demand: each call has one outcome, the number that is due, and a refusal that writes nothing. Assumes nothing.
-use mathlib.Core.Path.{_≡_, refl, sym, ap, _∙_}
+-- The workshop of the first demand: each call has one outcome, the number that its table gives, and a refusal that writes nothing. Assumes nothing.
+use mathlib.Core.Path.{_≡_, refl, sym, ap, _∙_, subst}
 use mathlib.Core.List.{List}
+use mathlib.Core.Logic.{_≢_}
 use Prim.Native.Nat.{ℕ}
 use native.Mathlib.Omega.{arith}
 use lib.IntN.{ℤ}
@@ -25,7 +26,8 @@ use Rattle.rules.specs.ReadId.{idNumber, idSays}
 use Rattle.rules.specs.Survey.{refusal, Surveyed}
 use Rattle.rules.specs.Audio.{audioNumber, audioAnswer, AudioRead}
 use Rattle.rules.specs.Time.{timeNumber, timeRefused, timeAnswer, timeFound, TimeRead}
-use Rattle.rules.specs.Statements.{EveryCall}
+use Rattle.rules.specs.Refusals.{Table}
+use Rattle.rules.specs.Demand1.{Answers, EveryCall}
 use Rattle.rules.proofs.Calls.{read-id-one, id-said-one, survey-frame-one, survey-sequence-one, survey-refused, survey-taken, view-number-one, view-one, view-refused, view-lies-one, view-lies-number, view-lies-refused}
 use Rattle.rules.proofs.Check.{check-frame-one}
 use Rattle.rules.proofs.Audio.{read-audio-one, audio-refused}
@@ -33,6 +35,8 @@ use Rattle.rules.proofs.Macroblock.{macroblock-number-one, macroblock-o
 use Rattle.rules.proofs.Time.{time-1, read-time-one, time-refused}
 use Rattle.rules.proofs.Salvage.{salvage-one, salvage-refused}
 use Rattle.rules.proofs.Write.{write-frame-one, write-refused}
+use Rattle.rules.proofs.Tables.{Exactly}
+use Rattle.rules.proofs.Refusals.{id-exactly, survey-exactly, salvage-exactly, sequence-exactly, view-exactly, check-exactly, audio-exactly, macroblock-exactly, time-exactly, write-exactly}
 
 -- ---- two calls on one input: a number, and a part
 
@@ -46,7 +50,7 @@ pair-one p q = record {
 -- ---- read_id
 
 module _ (id : List ℕ) where
-  says-number : idSays id .number ≡ idNumber id
+  pub says-number : idSays id .number ≡ idNumber id
   unfolding idSays pick
   says-number = by-eq (idNumber id) 0 (λ z. rw (eq-eqb _ 0 z) (sym z)) (λ d. rw (ne-eqb _ 0 d) refl)
 
@@ -57,7 +61,7 @@ module _ (id : List ℕ) where
 -- ---- survey, survey_sequence, and salvage beside its samples
 
 module _ {number : ℕ} {fs : List Fault} {list list′ : List ℕ} {r : Survey} (s : Surveyed number fs list r list′) where
-  survey-number : r .number ≡ number
+  pub survey-number : r .number ≡ number
   survey-number =
       by-eq number 0
       (λ z. ap (λ (x : Survey). x .number) (survey-taken s z .0) ∙ sym z)
@@ -98,73 +102,64 @@ module _ (k : ℕ) (frame : List ℕ) where
 
 -- ---- all
 
+-- a call that answers the number of its contract answers what its table gives, and the table gives no other
+answers : {Outcome : Type 0} {Meets : Outcome → Type 0} {answered : Outcome → ℕ} {table : Table} {Quiet : Outcome → Type 0} {due : ℕ} → ExactlyOne Outcome Meets
+    → Exactly table due → ((o : Outcome) → Meets o → answered o ≡ due) → ((o : Outcome) → Meets o → answered o ≢ 0 → Quiet o) → Answers Outcome Meets answered table Quiet
+answers {table = table} one exactly is quiet = record {
+  one = one;
+  numbered = λ o m. subst table (sym (is o m)) (exactly .gives);
+  no-other = λ o m r given. exactly .only r given ∙ sym (is o m);
+  refused = quiet;
+}
+
 pub every-call : EveryCall
 every-call = record {
-  read-id = λ id. record {
-    one = read-id-one id;
-    numbered = λ o m. ap (λ (v : IdValues). v .number) (m .says) ∙ says-number id;
-    refused = λ o m d. rw (m .says) (says-quiet id (λ z. d (ap (λ (v : IdValues). v .number) (m .says) ∙ z)));
-  };
-  id-values = λ id. record {
-    one = id-said-one id;
-    numbered = λ o m. ap (λ (v : IdValues). v .number) (m .answer) ∙ says-number id;
-    refused = λ o m d. rw (m .answer) (says-quiet id (λ z. d (ap (λ (v : IdValues). v .number) (m .answer) ∙ z)));
-  };
-  survey = λ k frame list. record {
-    one = survey-frame-one k frame list;
-    numbered = λ o m. survey-number m;
-    refused = λ o m d i. (survey-quiet m d .0 i, survey-quiet m d .1 i);
-  };
-  survey-sequence = λ k h q sequence list. record {
-    one = survey-sequence-one k h q sequence list;
-    numbered = λ o m. survey-number m;
-    refused = λ o m d i. (survey-quiet m d .0 i, survey-quiet m d .1 i);
-  };
-  view = λ k frame h q p. record {
-    one = pair-one (view-number-one k frame h q p) (view-one k frame h q p);
-    numbered = λ o m. m .0 .answer;
-    refused = λ o m d. m .1 .answer ∙ view-refused k frame h q p (λ z. d (m .0 .answer ∙ z));
-  };
-  view-at = λ k frame h q p. record {
-    one = view-lies-one k frame h q p;
-    numbered = λ o m. view-lies-number k frame h q p m;
-    refused = λ o m d. let e = view-lies-number k frame h q p m in view-lies-refused k frame h q p m (λ z. d (e ∙ z)) ∙ ap noPart (sym e);
-  };
-  check-frame = λ k frame. record {
-    one = check-frame-one k frame;
-    numbered = λ o m. m .answer;
-    refused = λ o m d. m .answer;
-  };
-  read-audio = λ k frame c samples. record {
-    one = read-audio-one k frame c samples;
-    numbered = λ o m. audio-number k frame c samples m;
-    refused = λ o m d i. (audio-quiet k frame c samples m d .0 i, audio-quiet k frame c samples m d .1 i);
-  };
-  macroblock = λ k frame b. record {
-    one = pair-one (macroblock-number-one k frame b) (macroblock-one k frame b);
-    numbered = λ o m. m .0 .answer;
-    refused = λ o m d. m .1 .answer ∙ macroblock-refused k frame b (λ z. d (m .0 .answer ∙ z));
-  };
-  macroblock-at = λ k frame b. record {
-    one = macroblock-lies-one k frame b;
-    numbered = λ o m. macroblock-lies-number k frame b m;
-    refused = λ o m d. let e = macroblock-lies-number k frame b m in macroblock-lies-refused k frame b m (λ z. d (e ∙ z)) ∙ ap noPart (sym e);
-  };
-  read-time = λ k frame. record {
-    one = read-time-one k frame;
-    numbered = λ o m. time-number k frame m;
-    refused = λ o m d. time-refused k frame m (λ z. d (time-number k frame m ∙ z)) ∙ ap timeRefused (sym (time-number k frame m));
-  };
-  salvage = λ k frame samples list. record {
-    one = salvage-one k frame samples list;
-    numbered = λ o m. survey-number (m .survey);
-    refused = λ o m d i.
-        let v = survey-quiet (m .survey) d in
-        (v .0 i, salvage-refused m (λ z. d (survey-number (m .survey) ∙ z)) .1 i, v .1 i);
-  };
-  write-frame = λ k l frame. record {
-    one = write-frame-one k l frame;
-    numbered = λ o m. m .answer;
-    refused = λ o m d. write-refused m d;
-  };
+  read-id = λ id.
+      answers (read-id-one id) (id-exactly id)
+      (λ o m. ap (λ (v : IdValues). v .number) (m .says) ∙ says-number id)
+      (λ o m d. rw (m .says) (says-quiet id (λ z. d (ap (λ (v : IdValues). v .number) (m .says) ∙ z))));
+  id-values = λ id.
+      answers (id-said-one id) (id-exactly id)
+      (λ o m. ap (λ (v : IdValues). v .number) (m .answer) ∙ says-number id)
+      (λ o m d. rw (m .answer) (says-quiet id (λ z. d (ap (λ (v : IdValues). v .number) (m .answer) ∙ z))));
+  survey = λ k frame list.
+      answers (survey-frame-one k frame list) (survey-exactly k (length frame))
+      (λ o m. survey-number m)
+      (λ o m d i. (survey-quiet m d .0 i, survey-quiet m d .1 i));
+  survey-sequence = λ k h q sequence list.
+      answers (survey-sequence-one k h q sequence list) (sequence-exactly k h q (length sequence))
+      (λ o m. survey-number m)
+      (λ o m d i. (survey-quiet m d .0 i, survey-quiet m d .1 i));
+  view = λ k frame h q p.
+      answers (pair-one (view-number-one k frame h q p) (view-one k frame h q p)) (view-exactly k frame h q p)
+      (λ o m. m .0 .answer)
+      (λ o m d. m .1 .answer ∙ view-refused k frame h q p (λ z. d (m .0 .answer ∙ z)));
+  view-at = λ k frame h q p.
+      answers (view-lies-one k frame h q p) (view-exactly k frame h q p)
+      (λ o m. view-lies-number k frame h q p m)
+      (λ o m d. let e = view-lies-number k frame h q p m in view-lies-refused k frame h q p m (λ z. d (e ∙ z)) ∙ ap noPart (sym e));
+  check-frame = λ k frame. answers (check-frame-one k frame) (check-exactly k frame) (λ o m. m .answer) (λ o m d. tt);
+  read-audio = λ k frame c samples.
+      answers (read-audio-one k frame c samples) (audio-exactly k frame c (length samples))
+      (λ o m. audio-number k frame c samples m)
+      (λ o m d i. (audio-quiet k frame c samples m d .0 i, audio-quiet k frame c samples m d .1 i));
+  macroblock = λ k frame b.
+      answers (pair-one (macroblock-number-one k frame b) (macroblock-one k frame b)) (macroblock-exactly k frame b)
+      (λ o m. m .0 .answer)
+      (λ o m d. m .1 .answer ∙ macroblock-refused k frame b (λ z. d (m .0 .answer ∙ z)));
+  macroblock-at = λ k frame b.
+      answers (macroblock-lies-one k frame b) (macroblock-exactly k frame b)
+      (λ o m. macroblock-lies-number k frame b m)
+      (λ o m d. let e = macroblock-lies-number k frame b m in macroblock-lies-refused k frame b m (λ z. d (e ∙ z)) ∙ ap noPart (sym e));
+  read-time = λ k frame.
+      answers (read-time-one k frame) (time-exactly k frame)
+      (λ o m. time-number k frame m)
+      (λ o m d. time-refused k frame m (λ z. d (time-number k frame m ∙ z)) ∙ ap timeRefused (sym (time-number k frame m)));
+  salvage = λ k frame samples list.
+      answers (salvage-one k frame samples list) (salvage-exactly k frame (length samples))
+      (λ o m. survey-number (m .survey))
+      (λ o m d i.
+      let v = survey-quiet (m .survey) d in
+      (v .0 i, salvage-refused m (λ z. d (survey-number (m .survey) ∙ z)) .1 i, v .1 i));
+  write-frame = λ k l frame. answers (write-frame-one k l frame) (write-exactly k l (length frame)) (λ o m. m .answer) (λ o m d. write-refused m d);
 }

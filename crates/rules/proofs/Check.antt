@@ -11,7 +11,7 @@ use borrow.Author.Tests.{eq-eqb, ne-eqb, eqb-false, not-true}
 use Rattle.base.specs.Calls.{Refusal, firstOf, _when_, ExactlyOne}
 use Rattle.base.specs.Pick.{pick}
 use Rattle.base.specs.Run.{run}
-use Rattle.base.proofs.Below.{below-means, below-when, below-fails}
+use Rattle.base.proofs.Below.{below-means, below-when, below-fails, below-some}
 use Rattle.base.proofs.Cases.{by-bool, by-eq}
 use Rattle.base.proofs.Picks.{pick-true, pick-false}
 use Rattle.rules.specs.declared.System.{System}
@@ -63,6 +63,17 @@ module _ (y : System) (frame : List ℕ) (test : ℕ → List ℕ → Bool) wher
   unfolding everySequence
   every-fails h q hh hq e = below-fails (λ (i : ℕ). everyFrom y frame i 0 (sequencesOf y) test) 4 h hh (from-fails h 0 (sequencesOf y) q hq (rw zero-add e))
 
+  -- and where not all pass, there is one
+  pub from-some : {P : Type 0} (h q k : ℕ) → everyFrom y frame h q k test ≡ false → ((r : ℕ) → r < k → test (q + r) (sequenceAt y frame h (q + r)) ≡ false → P) → P
+  unfolding everyFrom
+  from-some h q k e one = below-some _ k e one
+
+  pub every-some : {P : Type 0} → everySequence y frame test ≡ false → ((h q : ℕ) → h < 4 → q < sequencesOf y → test q (sequenceAt y frame h q) ≡ false → P) → P
+  unfolding everySequence
+  every-some e one =
+      below-some (λ (i : ℕ). everyFrom y frame i 0 (sequencesOf y) test) 4 e (λ h hh d.
+      from-some h 0 (sequencesOf y) d (λ r l g. one h r hh l (simp zero-add at g)))
+
 -- ---- what a sequence says is what its blocks say
 
 -- the block of number k of a section, in a sequence of a frame
@@ -109,7 +120,7 @@ module _ (y : System) (frame : List ℕ) where
   fault-some j e = eqb-false _ _ e
 
   -- blocks that name their place leave no record
-  unnamed-none : (m : ℕ) → ((j : ℕ) → j < m → named y frame j ≡ true) → unnamed y frame m ≡ []
+  pub unnamed-none : (m : ℕ) → ((j : ℕ) → j < m → named y frame j ≡ true) → unnamed y frame m ≡ []
   unfolding unnamed run
   unnamed-none zero h = refl
   unnamed-none (suc m) h =

@@ -20,7 +20,8 @@ use Rattle.rules.specs.Write.{Wrote, Takes}
 use Rattle.rules.specs.Rows.{rowsAgree, printedRows}
 use Rattle.rules.specs.Known.{all, table}
 use Rattle.rules.specs.Numbers.{InNumbers}
-use Rattle.rules.specs.Statements.{EveryCall, Strict, StrictlyRead, ReadOut, ReadsBack, WritesBack, SampleSalvaged, Listed, Salvages, tone}
+use Rattle.rules.specs.Demand1.{EveryCall}
+use Rattle.rules.specs.Statements.{Strict, StrictlyRead, ReadOut, ReadsBack, WritesBack, SampleSalvaged, Listed, Salvages, tone}
 use Rattle.rules.proofs.Picture.{rows-agree}
 use Rattle.rules.proofs.Known.{table-agrees}
 use Rattle.rules.proofs.Numbers.{in-numbers}

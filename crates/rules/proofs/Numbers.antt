@@ -1,16 +1,17 @@
 -- The rules that the demands stand on, in document 01's own numbers. Assumes nothing.
 use mathlib.Core.Path.{_≡_, refl, sym, ap, _∙_}
 use mathlib.Core.Bool.{true, _||_}
-use mathlib.Core.List.{List}
+use mathlib.Core.List.{List, [], _∷_}
 use Prim.Native.Nat.{ℕ, suc, _+_, _-_, _*_, _/_, _%_, _≤_, _<_}
 use native.Mathlib.Nat.{mul-add-div, div-eq-of-lt, mul-add-mod-self-left, mod-eq-of-lt}
 use native.Mathlib.Omega.{arith}
 use borrow.Author.Tests.{eqb-true, eqb-false, ne-eqb, lt-ltb, le-ltb, leb-true, le-leb, lt-leb}
 use lib.Dec.{eqb, ltb, leb}
 use lib.IntN.{ℤ, pos, negsuc}
-use lib.ListN.{getD, take, drop}
+use lib.ListN.{getD, take, drop, List·getD-eq-default}
 use lib.Seq.{getD-take, getD-drop}
 use Rattle.base.specs.Pick.{pick}
+use Rattle.base.specs.Run.{run, tab}
 use Rattle.base.proofs.Cases.{by-bool, by-lt, by-eq}
 use Rattle.base.proofs.Picks.{both-held}
 use Rattle.rules.specs.declared.System.{System}
@@ -18,7 +19,7 @@ use Rattle.rules.specs.declared.System.the-variants.{I60, I50, P60, P50}
 use Rattle.rules.specs.declared.SystemNumber.the-variants.{Known}
 use Rattle.rules.specs.declared.Carried.the-variants.{Macroblock, Nothing}
 use Rattle.rules.specs.Systems.{sequencesOf, halfOf, positionsOf, isCount, systemOf}
-use Rattle.rules.specs.Places.{sectionOf}
+use Rattle.rules.specs.Places.{codeOf, sectionOf, place, places, entryAt}
 use Rattle.rules.specs.Blocks.{blockAt}
 use Rattle.rules.specs.Samples.{numberOf, inRange, sampleIn, sampleOf, wordIn, wordFor, wordAt, backOf}
 use Rattle.rules.specs.Samples
@@ -28,15 +29,15 @@ use Rattle.rules.specs.Faults.{names}
 use Rattle.rules.specs.Stream.{named}
 use Rattle.rules.specs.Reading.{soundBlock, soundNamed, readSample}
 use Rattle.rules.specs.Paper
-use Rattle.rules.specs.Paper.{soundStart, soundWord, heard, wordOf, back, tenRows, elevenRows, carried}
-use Rattle.rules.specs.Numbers.{InNumbers}
+use Rattle.rules.specs.Paper.{soundStart, soundWord, heard, wordOf, back, tenRows, elevenRows, carried, macroblocks, figure3}
+use Rattle.rules.specs.Numbers.{SlotOf, InNumbers}
 use Rattle.rules.proofs.Systems.{system-number, system-above, half-cases, half-twice, positions-half, sequences-some}
 use Rattle.rules.proofs.Ids.{channel-pairs}
-use Rattle.rules.proofs.Samples.{back-least, back-other}
+use Rattle.rules.proofs.Blocks.{start-within}
 use Rattle.rules.proofs.Sound.{row-below, audio-below, word-below, sequence-below}
-use Rattle.rules.proofs.Picture.{within-there}
+use Rattle.rules.proofs.Picture.{within-there, carrier-one, carried-inside}
 use Rattle.rules.proofs.Faults.{fault-names, names-fault}
-use Rattle.rules.proofs.Paper.{number-known}
+use Rattle.rules.proofs.Paper.{columns, number-known, known-system, fault-is}
 
 -- ---- isCount
 
@@ -134,6 +135,10 @@ module _ (y : System) (g : List ℕ) (c t : ℕ) where
       let dseq : (n * h + q) % n ≡ q = mul-add-mod-self-left n h q ∙ mod-eq-of-lt q-below in
       rw (row, place, channel, dseq) (ap (λ (b : List ℕ). names b h q (soundPlace (halfOf y) t)) sound-block)
 
+  -- it lies in the frame
+  pub sound-within : 0 < c → c < 9 → j * 80 + 80 ≤ 48000 * sequencesOf y
+  sound-within c1 c8 = omega (arith, index-is, start-within y (difOf c) (sequenceOf (halfOf y) c t) (soundPlace (halfOf y) t) (omega arith) q-below p-below)
+
   sound-byte : byteOf (halfOf y) t ≡ 8 + 2 * (t / (9 * (sequencesOf y / 2)))
   unfolding halfOf
   sound-byte = refl
@@ -178,7 +183,8 @@ module _ (h q g m : ℕ) (hg : g < 27) (hm : m < 5) where
   unfolding tenCarries
   ten-is = rw (group-is, unit-is) refl
 
-  eleven-is : q < 12 → elevenCarries h q (5 * g + m) ≡ pick (ltb q 11) (Macroblock (elevenRows h q g m)) (pick (eqb h 0) (Macroblock (5940 + 27 * m + g)) Nothing)
+  eleven-is : q < 12
+      → elevenCarries h q (5 * g + m) ≡ pick (ltb q 11) (Macroblock (elevenRows h q g m)) (pick (eqb h 0) (Macroblock (5940 + 27 * m + g)) Nothing)
   unfolding elevenCarries pick
   eleven-is hq =
       by-lt q 11
@@ -191,6 +197,41 @@ module _ (h q g m : ℕ) (hg : g < 27) (hm : m < 5) where
   carried-is k I50 known hh hq = within-there elevenCarries (slot h q (5 * g + m)) hh (omega arith) ∙ eleven-is hq ∙ rw (number-known k I50 known) refl
   carried-is k P60 known hh hq = within-there tenCarries (slot h q (5 * g + m)) hh (omega arith) ∙ ten-is ∙ rw (number-known k P60 known) refl
   carried-is k P50 known hh hq = within-there tenCarries (slot h q (5 * g + m)) hh (omega arith) ∙ ten-is ∙ rw (number-known k P50 known) refl
+
+-- every macroblock of the system has its slot
+slot-of : (k b : ℕ) → b < macroblocks k → SlotOf k b
+slot-of k b hb =
+    by-lt k 4
+    (λ l.
+    known-system k l (λ y known.
+    let col = columns k y known in
+    let one = carrier-one y b (omega (arith, hb, col .macroblocks-is)) in
+    let s = one .outcome in
+    let i = carried-inside y s b (one .meets) in
+    let v = s .video .0 in
+    let e : 5 * (v / 5) + v % 5 ≡ v = omega arith in
+    record {
+      h = s .channel;
+      q = s .sequence;
+      g = v / 5;
+      m = v % 5;
+      channel = i .channel;
+      sequence = omega (arith, i .sequence, col .sequences-is);
+      group = omega (arith, i .video);
+      unit = omega arith;
+      carries =
+          sym (carried-is (s .channel) (s .sequence) (v / 5) (v % 5) (omega (arith, i .video)) (omega arith) k y known (i .channel) (i .sequence))
+          ∙ ap (λ (x : ℕ). carriedIn y (slot (s .channel) (s .sequence) x)) e ∙ one .meets;
+    }))
+    (λ past.
+    let none : macroblocks k ≡ 0 = List·getD-eq-default (5400 ∷ 6075 ∷ 5400 ∷ 5400 ∷ []) 0 past in
+    absurd (omega (arith, hb, none)))
+
+-- ---- entryAt: figure 3
+
+places-are : tab (λ (p : ℕ). (codeOf (entryAt (place p) .section), entryAt (place p) .number .0)) 150 ≡ figure3
+unfolding tab run entryAt places figure3
+places-are = refl
 
 -- ---- all
 
@@ -211,5 +252,10 @@ in-numbers = record {
   names-not = λ y g j e n. eqb-false _ _ e (names-fault _ _ _ _ n);
   sound = λ y g c t. (sound-named y g c t, sound-block y g c t, sound-byte y g c t);
   range = range-numbers;
-  back = λ n. (back-other n .0, back-other n .1, back-least);
+  places = places-are;
+  faults = fault-is;
+  hears = heard-is;
+  words = λ z e. (word-is z e, back-is z e);
+  slots = λ k y known h q g m hh hq hg hm. carried-is h q g m hg hm k y known hh hq;
+  all-carried = slot-of;
 }

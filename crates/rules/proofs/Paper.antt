@@ -13,6 +13,7 @@ use Rattle.base.specs.Pick.{pick}
 use Rattle.base.specs.Run.{run, tab}
 use Rattle.base.proofs.Below.{below-at}
 use Rattle.base.proofs.Cases.{by-lt}
+use Rattle.base.proofs.Parts.{part-part, drop-part}
 use Rattle.rules.specs.declared.System.{System}
 use Rattle.rules.specs.declared.System.the-variants.{I60, I50, P60, P50}
 use Rattle.rules.specs.declared.SystemNumber.{SystemNumber}
@@ -23,7 +24,7 @@ use Rattle.rules.specs.Places.{codeOf, place, places, entryAt}
 use Rattle.rules.specs.Ids.{channelOf, namedBy, fscOf, fspOf}
 use Rattle.rules.specs.Blocks.{startOf, blockAt, sequenceAt, blockIn}
 use Rattle.rules.specs.Faults.{misnamed, faultOf, faultAt}
-use Rattle.rules.specs.Paper.{sequences, positions, fewer, more, macroblocks, rate, stype, lastFrame, byteAt, figure3, sectionAt, numberAt, channelBy, channelBits, fault}
+use Rattle.rules.specs.Paper.{sequences, positions, fewer, more, macroblocks, rate, stype, lastFrame, byteAt, bytesAt, figure3, sectionAt, numberAt, channelBy, channelBits, fault}
 use Rattle.rules.proofs.Systems.{system-above}
 use Rattle.rules.proofs.Places.{code-section, entry-past}
 use Rattle.rules.proofs.Blocks.{block-in-sequence}
@@ -69,16 +70,23 @@ known-below k y e = by-lt k 4 (λ l. l) (λ g. absurd (omega (arith, number-belo
 pub number-known : (k : ℕ) (y : System) → systemOf k ≡ Known y → k ≡ numberOfSystem y
 number-known k y e = sym (said-below k (known-below k y e)) ∙ ap said e
 
+pub none-above : (k : ℕ) → systemOf k ≡ NoSystem → 3 < k
+none-above k e = by-lt k 4 (λ l. absurd (omega (arith, said-below k l, ap said e))) (λ g. g)
+
 pub columns : (k : ℕ) (y : System) → systemOf k ≡ Known y → Columns k y
 columns k y e = subst (λ (j : ℕ). Columns j y) (sym (number-known k y e)) (columns-at y)
 
--- and each of 0 to 3 says one
-pub known-system : {P : Type 0} (k : ℕ) → k < 4 → ((y : System) → systemOf k ≡ Known y → P) → P
-known-system {P} k h f = by-number (systemOf k) refl
+-- a number says none, or a system
+pub by-system : {P : Type 0} (k : ℕ) → (systemOf k ≡ NoSystem → P) → ((y : System) → systemOf k ≡ Known y → P) → P
+by-system {P} k none some = by-number (systemOf k) refl
   where
     by-number : (s : SystemNumber) → systemOf k ≡ s → P
-    by-number (Known y) e = f y e
-    by-number NoSystem e = absurd (omega (arith, said-below k h, ap said e))
+    by-number (Known y) e = some y e
+    by-number NoSystem e = none e
+
+-- and each of 0 to 3 says one
+pub known-system : {P : Type 0} (k : ℕ) → k < 4 → ((y : System) → systemOf k ≡ Known y → P) → P
+known-system k h f = by-system k (λ e. absurd (omega (arith, h, none-above k e))) f
 
 -- ---- figure 3
 
@@ -142,7 +150,7 @@ module _ (bytes : List ℕ) (h q p : ℕ) (long : 3 ≤ length bytes) where
       rw (read-id-0 (take 3 bytes) three (rw b0 l), b0, b1, b2, lt-leb _ _ l, code-section (getD bytes 0 0 / 32) l, channel-by (getD bytes 1 0), figure-section p, figure-number p) refl)
       (λ g. rw (read-id-11 (take 3 bytes) three (rw b0 g), le-leb _ _ g) refl)
 
--- ---- byteAt
+-- ---- byteAt, bytesAt
 
 module _ (y : System) (f : List ℕ) (h q p i : ℕ) (hi : i < 80) where
   pub byte-at : getD (blockAt y f h q p) i 0 ≡ byteAt (sequencesOf y) f h q p i
@@ -151,3 +159,17 @@ module _ (y : System) (f : List ℕ) (h q p i : ℕ) (hi : i < 80) where
 
   pub byte-in : p < 150 → getD (blockIn (sequenceAt y f h q) p) i 0 ≡ byteAt (sequencesOf y) f h q p i
   byte-in hp = ap (λ (b : List ℕ). getD b i 0) (block-in-sequence y f h q p hp) ∙ byte-at
+
+module _ (y : System) (f : List ℕ) (h q p : ℕ) where
+  pub bytes-at : (i m : ℕ) → i + m ≤ 80 → take m (drop i (blockAt y f h q p)) ≡ bytesAt (sequencesOf y) f h q p i m
+  unfolding blockAt
+  bytes-at i m hi = part-part (startOf y h q p) 80 i m f hi
+
+  -- the whole block, and what is behind its ID
+  pub block-bytes : blockAt y f h q p ≡ bytesAt (sequencesOf y) f h q p 0 80
+  unfolding blockAt
+  block-bytes = let e : startOf y h q p ≡ startOf y h q p + 0 = omega arith in ap (λ (a : ℕ). take 80 (drop a f)) e
+
+  pub rest-bytes : drop 3 (blockAt y f h q p) ≡ bytesAt (sequencesOf y) f h q p 3 77
+  unfolding blockAt
+  rest-bytes = drop-part (startOf y h q p) 3 77 f

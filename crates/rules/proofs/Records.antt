@@ -23,10 +23,16 @@ unfolding flat
 flat-length [] = refl
 flat-length (f ∷ fs) = omega (arith, flat-length fs)
 
-flat-append : (a b : List Fault) → flat (a ++ b) ≡ flat a ++ flat b
+pub flat-append : (a b : List Fault) → flat (a ++ b) ≡ flat a ++ flat b
 unfolding flat
 flat-append [] b = refl
 flat-append (f ∷ a) b = ap (λ (l : List ℕ). f .channel ∷ f .sequence ∷ f .place .0 ∷ f .fault ∷ l) (flat-append a b)
+
+-- the records of a run of faults
+pub flat-run : (f : ℕ → List Fault) (m : ℕ) → flat (run f m) ≡ run (λ (j : ℕ). flat (f j)) m
+unfolding flat run
+flat-run f zero = refl
+flat-run f (suc m) = flat-append (run f m) (f m) ∙ ap (λ (l : List ℕ). l ++ flat (f m)) (flat-run f m)
 
 -- ---- kept
 
@@ -38,6 +44,14 @@ kept-first list fs = take-append-drop (room list) fs
 pub kept-length : (list : List ℕ) (fs : List Fault) → length (kept list fs) ≡ min (length list / 4) (length fs)
 unfolding kept room
 kept-length list fs = length-take (length list / 4) fs
+
+-- their records are the first of all
+pub kept-flat : (list : List ℕ) (fs : List Fault) → flat (kept list fs) ≡ take (4 * length (kept list fs)) (flat fs)
+kept-flat list fs =
+    sym (
+    ap (λ (gs : List Fault). take (4 * length (kept list fs)) (flat gs)) (sym (kept-first list fs))
+    ∙ ap (take (4 * length (kept list fs))) (flat-append (kept list fs) (drop (room list) fs))
+    ∙ take-at (flat (kept list fs)) _ (4 * length (kept list fs)) (flat-length (kept list fs)))
 
 -- no more is kept than there is room for, nor than there are
 pub kept-room : (list : List ℕ) (fs : List Fault) → 4 * length (kept list fs) ≤ length list

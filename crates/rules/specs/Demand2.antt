@@ -48,6 +48,11 @@ pub record ViewOut (k : ℕ) (f : List ℕ) (h q : ℕ) (p : Place) (number : �
   pub block : number ≡ 0 → part ≡ bytesAt (sequences k) f h q (p .0) 0 80
   pub lies : r .number ≡ 0 → r ≡ record { number = 0; start = start (sequences k) h q (p .0); length = 80 }
 
+-- a macroblock by start and length: behind the ID of the slot V(5g+m) which carries it
+pub record MacroblockOut (k : ℕ) (f : List ℕ) (b : ℕ) (r : Part) : Type 0 where
+  pub lies : r .number ≡ 0 → (h q g m : ℕ) → h < 4 → q < sequences k → g < 27 → m < 5 → carried k h q g m ≡ Macroblock b
+      → r ≡ record { number = 0; start = start (sequences k) h q (slotPlace (5 * g + m)) + 3; length = 77 }
+
 -- what the strict reads answer of a frame: the check, audio channel c, macroblock b, the time code
 pub record Strict : Type 0 where
   pub check : ℕ

@@ -2,28 +2,44 @@
 use mathlib.Core.Path.{_≡_}
 use mathlib.Core.Bool.{true, false, _||_}
 use mathlib.Core.List.{List}
-use Prim.Native.Nat.{ℕ, _+_, _*_, _/_, _%_, _<_}
+use Prim.Native.Nat.{ℕ, _+_, _*_, _/_, _%_, _≤_, _<_}
 use lib.Dec.{eqb, leb}
-use lib.IntN.{pos, negsuc}
-use lib.ListN.{take, drop}
+use lib.IntN.{ℤ, pos, negsuc}
+use lib.ListN.{length, getD, take, drop}
+use Rattle.base.specs.Run.{tab}
 use Rattle.rules.specs.declared.System.{System}
 use Rattle.rules.specs.declared.System.the-variants.{I60, I50, P60, P50}
 use Rattle.rules.specs.declared.SystemNumber.the-variants.{Known, NoSystem}
+use Rattle.rules.specs.declared.Carried.the-variants.{Macroblock}
 use Rattle.rules.specs.declared.Section.the-variants.{Header, Subcode, Vaux, Audio, Video}
 use Rattle.rules.specs.Systems.{sequencesOf, halfOf, positionsOf, isCount, macroblocksOf, systemOf}
-use Rattle.rules.specs.Places.{sectionOf}
+use Rattle.rules.specs.Places.{codeOf, sectionOf, place, entryAt}
 use Rattle.rules.specs.Ids.{channelOf}
-use Rattle.rules.specs.Samples.{inRange, backOf}
+use Rattle.rules.specs.Samples.{numberOf, inRange, sampleOf, wordFor, backOf}
 use Rattle.rules.specs.Sound.{byteOf}
-use Rattle.rules.specs.Faults.{NamesPlace}
+use Rattle.rules.specs.Picture.{slot, carriedIn}
+use Rattle.rules.specs.Faults.{faultAt, NamesPlace}
 use Rattle.rules.specs.Stream.{named}
 use Rattle.rules.specs.Reading.{soundBlock, soundNamed}
 use Rattle.rules.specs.Paper
+use Rattle.rules.specs.Paper.{sequences, macroblocks, figure3, fault, heard, carried}
 
 -- a row of the table of systems
-pub record Numbers (k : ℕ) (y : System) (n positions macroblocks : ℕ) : Type 0 where
+pub record Numbers (k : ℕ) (y : System) (n positions count : ℕ) : Type 0 where
   pub system : systemOf k ≡ Known y
-  pub numbers : (sequencesOf y ≡ n) × (positionsOf y ≡ positions) × (macroblocksOf y ≡ macroblocks)
+  pub numbers : (sequencesOf y ≡ n) × (positionsOf y ≡ positions) × (macroblocksOf y ≡ count)
+
+-- the slot V(5g+m) of sequence q of DIF channel h carries macroblock b
+pub record SlotOf (k b : ℕ) : Type 0 where
+  pub h : ℕ
+  pub q : ℕ
+  pub g : ℕ
+  pub m : ℕ
+  pub channel : h < 4
+  pub sequence : q < sequences k
+  pub group : g < 27
+  pub unit : m < 5
+  pub carries : carried k h q g m ≡ Macroblock b
 
 pub record InNumbers : Type 0 where
   -- "Each system brings its own four numbers."
@@ -34,12 +50,24 @@ pub record InNumbers : Type 0 where
   -- "0 header, 1 subcode, 2 VAUX, 3 audio, 4 video"; "(FSC, FSP) = (0,1), (1,1), (0,0), (1,0) is channel 0, 1, 2, 3"
   pub sections : (sectionOf 0 ≡ Header) × (sectionOf 1 ≡ Subcode) × (sectionOf 2 ≡ Vaux) × (sectionOf 3 ≡ Audio) × (sectionOf 4 ≡ Video)
   pub channels : (channelOf 0 1 ≡ 0) × (channelOf 1 1 ≡ 1) × (channelOf 0 0 ≡ 2) × (channelOf 1 0 ≡ 3)
+  -- "Places 0 to 5 are H0, SC0, SC1, VA0, VA1, VA2. Then for a = 0 to 8: place 6+16a is A(a), the next 15 are V(15a) to V(15a+14).": figure 3
+  pub places : tab (λ (p : ℕ). (codeOf (entryAt (place p) .section), entryAt (place p) .number .0)) 150 ≡ figure3
   -- "A block names its place when section, channel, Dseq and DBN all do.": block j of the stream
-  pub names : (y : System) (g : List ℕ) (j : ℕ) → named y g j ≡ true → NamesPlace (take 80 (drop (j * 80) g)) (j / 150 / sequencesOf y) (j / 150 % sequencesOf y) (j % 150)
-  pub names-not : (y : System) (g : List ℕ) (j : ℕ) → named y g j ≡ false → NamesPlace (take 80 (drop (j * 80) g)) (j / 150 / sequencesOf y) (j / 150 % sequencesOf y) (j % 150) → ⊥
+  pub names : (y : System) (g : List ℕ) (j : ℕ) → named y g j ≡ true
+      → NamesPlace (take 80 (drop (j * 80) g)) (j / 150 / sequencesOf y) (j / 150 % sequencesOf y) (j % 150)
+  pub names-not : (y : System) (g : List ℕ) (j : ℕ) → named y g j ≡ false
+      → NamesPlace (take 80 (drop (j * 80) g)) (j / 150 / sequencesOf y) (j / 150 % sequencesOf y) (j % 150) → ⊥
+  -- 11 to 15, of a block by its three bytes
+  pub faults : (block : List ℕ) (h q p : ℕ) → 3 ≤ length block → faultAt block h q p ≡ fault (getD block 0 0) (getD block 1 0) (getD block 2 0) h q p
   -- the block and the byte of a sample
   pub sound : (y : System) (g : List ℕ) (c t : ℕ) → (soundNamed y g c t ≡ named y g (Paper.soundBlock (sequencesOf y) c t))
       × (soundBlock y g c t ≡ take 80 (drop (Paper.soundBlock (sequencesOf y) c t * 80) g)) × (byteOf (halfOf y) t ≡ 8 + 2 * (t / (9 * (sequencesOf y / 2))))
-  -- "a sample outside -32,768 to 32,768"; "a level of -32,768 comes back as -32,767"
+  -- "a sample outside -32,768 to 32,768"
   pub range : (n : ℕ) → (inRange (pos n) ≡ leb n 32768) × (inRange (negsuc n) ≡ leb n 32767)
-  pub back : (n : ℕ) → (backOf (pos n) ≡ pos n) × (n < 32767 → backOf (negsuc n) ≡ negsuc n) × (backOf (negsuc 32767) ≡ negsuc 32766)
+  -- "Word 8000h is lost; a level of -32,768 is written 8001h", and comes back as -32,767
+  pub hears : (w : ℕ) → numberOf (sampleOf w) ≡ heard w
+  pub words : (z : ℤ) → inRange z ≡ true → (wordFor z ≡ Paper.wordOf z) × (backOf z ≡ Paper.back z)
+  -- what the slot V(5g+m) carries, and that every macroblock of the system has its slot
+  pub slots : (k : ℕ) (y : System) → systemOf k ≡ Known y → (h q g m : ℕ) → h < 4 → q < sequencesOf y → g < 27 → m < 5
+      → carriedIn y (slot h q (5 * g + m)) ≡ carried k h q g m
+  pub all-carried : (k b : ℕ) → b < macroblocks k → SlotOf k b

@@ -61,13 +61,13 @@ abbrev pub WrongDsf : ℕ → List ℕ → ℕ → ℕ → Type 0
 WrongDsf k f h q = byteAt (sequences k) f h q 0 3 / 128 ≢ rate k
 
 -- byte i of the VS of a sequence
-abbrev pub vsAt : ℕ → List ℕ → ℕ → ℕ → ℕ → ℕ
-vsAt n f h q i = byteAt n f h q (vauxPlace (vsPack q)) (vauxByte (vsPack q) + i)
+abbrev pub vsByte : ℕ → List ℕ → ℕ → ℕ → ℕ → ℕ
+vsByte n f h q i = byteAt n f h q (vauxPlace (vsPack q)) (vauxByte (vsPack q) + i)
 
 -- 22: "some VS disagrees in 60h, rate or STYPE", bits 5 and 4-0 of PC3, "where its header's TF2 is 0", bit 7 of byte 6
 pub record WrongVs (k : ℕ) (f : List ℕ) (h q : ℕ) : Type 0 where
   pub valid : byteAt (sequences k) f h q 0 6 / 128 ≢ 1
-  pub wrong : (vsAt (sequences k) f h q 0 ≢ 0x60) ⊎ ((vsAt (sequences k) f h q 3 / 32 % 2 ≢ rate k) ⊎ (vsAt (sequences k) f h q 3 % 32 ≢ stype k))
+  pub wrong : (vsByte (sequences k) f h q 0 ≢ 0x60) ⊎ ((vsByte (sequences k) f h q 3 / 32 % 2 ≢ rate k) ⊎ (vsByte (sequences k) f h q 3 % 32 ≢ stype k))
 
 -- 23: "some header sets TF1 .., TF2 .. or TF3", bit 7 of byte 5, 6 or 7
 abbrev pub Flagged : ℕ → ℕ → List ℕ → ℕ → ℕ → Type 0
@@ -86,20 +86,20 @@ abbrev pub OwnCount : ℕ → ℕ → Type 0
 OwnCount k count = (count ≡ fewer k) ⊎ (count ≡ more k)
 
 -- byte i of the AS of a sequence
-abbrev pub asAt : ℕ → List ℕ → ℕ → ℕ → ℕ → ℕ
-asAt n f h q i = byteAt n f h q (asPlace q) (3 + i)
+abbrev pub asByte : ℕ → List ℕ → ℕ → ℕ → ℕ → ℕ
+asByte n f h q i = byteAt n f h q (asPlace q) (3 + i)
 
 -- 24: "AS: 50h; LF 0 in bit 7 and AF size in bits 5-0 ..; bit 7 zero, CHN 00 in bits 6-5, mode in bits 3-0 (0 for channels 1, 3, 5, 7; 1 for 2, 4, 6, 8 ..);
 -- 50/60 bit 5, STYPE 00011; SMP and QU 000 in bits 5-0."
 pub data WrongAs (k : ℕ) (f : List ℕ) (c h q : ℕ) : Type 0 where
-  wrongHeader : asAt (sequences k) f h q 0 ≢ 0x50 → WrongAs k f c h q
-  wrongLf : 128 ≤ asAt (sequences k) f h q 1 → WrongAs k f c h q
-  wrongSize : (OwnCount k (countBy (asAt (sequences k) f h q 1 % 64)) → ⊥) → WrongAs k f c h q
-  wrongChn : 32 ≤ asAt (sequences k) f h q 2 → WrongAs k f c h q
-  wrongMode : asAt (sequences k) f h q 2 % 16 ≢ (c + 1) % 2 → WrongAs k f c h q
-  wrongRate : asAt (sequences k) f h q 3 / 32 % 2 ≢ rate k → WrongAs k f c h q
-  wrongStype : asAt (sequences k) f h q 3 % 32 ≢ 3 → WrongAs k f c h q
-  wrongSmpQu : asAt (sequences k) f h q 4 % 64 ≢ 0 → WrongAs k f c h q
+  wrongHeader : asByte (sequences k) f h q 0 ≢ 0x50 → WrongAs k f c h q
+  wrongLf : 128 ≤ asByte (sequences k) f h q 1 → WrongAs k f c h q
+  wrongSize : (OwnCount k (countBy (asByte (sequences k) f h q 1 % 64)) → ⊥) → WrongAs k f c h q
+  wrongChn : 32 ≤ asByte (sequences k) f h q 2 → WrongAs k f c h q
+  wrongMode : asByte (sequences k) f h q 2 % 16 ≢ (c + 1) % 2 → WrongAs k f c h q
+  wrongRate : asByte (sequences k) f h q 3 / 32 % 2 ≢ rate k → WrongAs k f c h q
+  wrongStype : asByte (sequences k) f h q 3 % 32 ≢ 3 → WrongAs k f c h q
+  wrongSmpQu : asByte (sequences k) f h q 4 % 64 ≢ 0 → WrongAs k f c h q
 
 -- 25: "the channel's AS packs differ in count"
 pub record CountsDiffer (n : ℕ) (f : List ℕ) (c : ℕ) : Type 0 where
@@ -133,7 +133,7 @@ pub data WrongFirst (k : ℕ) (f : List ℕ) : Type 0 where
 
 -- "At 50 Hz bit 6 of PC1 is arbitrary: .. reading ignores it on comparing"
 abbrev pub compared : ℕ → ℕ → ℕ → ℕ
-compared k i b = pick (eqb (rate k) 1 && eqb i 1) (b / 128 * 128 + b % 64) b
+compared k i b = pick (eqb i 1 && eqb (rate k) 1) (b / 128 * 128 + b % 64) b
 
 -- 27: "another such pack of the frame differs from it", in byte i
 pub data Differs (k : ℕ) (f : List ℕ) (h q : ℕ) : Type 0 where
