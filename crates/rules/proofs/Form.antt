@@ -136,7 +136,7 @@ module _ (k : ℕ) (y : System) (known : systemOf k ≡ Known y) (l : Lent) wher
 
     header-written : cut k w h q 0 3 77 ≡ headerForm k
     unfolding payload
-    header-written = behind-written Header 0 (omega arith) ∙ frame-payload y l h q Header 0 hh hq (omega arith) ∙ sym (header-form k y is)
+    header-written = behind-written Header 0 (omega arith) ∙ frame-payload y l h q Header 0 hh hq (omega arith) ∙ sym (header-form k y known)
 
     -- ---- subcode
 
@@ -162,7 +162,7 @@ module _ (k : ℕ) (y : System) (known : systemOf k ≡ Known y) (l : Lent) wher
         let n : 15 * (j / 15) + j % 15 ≡ j = omega arith in
         run-written Vaux (j / 15) (omega arith) 5 15 fifteen (0xFF ∷ 0xFF ∷ []) (λ i. refl) refl (j % 15) (3 + 5 * (j % 15)) (omega arith) (omega arith) (omega arith)
         ∙ ap (λ (i : ℕ). packBytes (vauxPack y q i)) n
-        ∙ sym (vaux-form k y is q j)
+        ∙ sym (vaux-form k y known q j)
 
     vaux-ones-written : (j : ℕ) → j < 3 → cut k w h q (3 + j) 78 2 ≡ replicate 2 0xFF
     unfolding payload
@@ -228,14 +228,14 @@ module _ (k : ℕ) (y : System) (known : systemOf k ≡ Known y) (l : Lent) wher
       headers = λ h q hh hq. header-written h q hh (within hq);
       ssybs = λ h q j hh hq hj.
           ssyb-written h q hh (within hq) j hj
-          ∙ sym (ssyb-form k y is (writtenFrame y l) time group (ap (λ (b : List ℕ). 0x13 ∷ b) time-first) (ap (λ (b : List ℕ). 0x14 ∷ b) group-first) q j hj);
+          ∙ sym (ssyb-form k y known (writtenFrame y l) time group (ap (λ (b : List ℕ). 0x13 ∷ b) time-first) (ap (λ (b : List ℕ). 0x14 ∷ b) group-first) q j hj);
       subcode-ones = λ h q j hh hq. subcode-ones-written h q hh (within hq) j;
       bit-6 = λ r.
           ap (λ (b : ℕ). b / 64 % 2) (cut-byte (sequences k) w 0 0 1 31 4 0 (omega arith) ∙ ap (λ (b : List ℕ). getD b 0 0) time-first)
           ∙ taken-means y time taken .0 (sym (is .rate-is) ∙ r);
       vaux = λ h q j hh hq. vaux-written h q hh (within hq) j;
       vaux-ones = λ h q j hh hq. vaux-ones-written h q hh (within hq) j;
-      aaux = λ h q a hh hq ha. aaux-written h q hh (within hq) a ha ∙ sym (aaux-form k y is (writtenFrame y l) (l .count) size-first h q (within hq) a);
+      aaux = λ h q a hh hq ha. aaux-written h q hh (within hq) a ha ∙ sym (aaux-form k y known (writtenFrame y l) (l .count) size-first h q (within hq) a);
       lf = ap (λ (b : ℕ). b / 64) size-first ∙ omega (arith, size-below (l .count));
       own = own-first;
       tails = λ c t c1 c8 past ht.
