@@ -6,7 +6,7 @@ use mathlib.Core.List.{List, [], _∷_, _++_}
 use Prim.Native.Nat.{ℕ, _+_, _*_, _/_, _%_, _≤_, _<_}
 use native.Mathlib.Omega.{arith}
 use lib.ListN.{length, getD, take, drop, replicate, length-drop}
-use lib.Seq.{take-all, drop-drop, take-append-le, drop-append-le, getD-take, getD-drop}
+use lib.Seq.{take-all, drop-drop, take-append-le, drop-append-le}
 use borrow.Author.Tests.{lt-ltb}
 use Rattle.base.specs.Pick.{pick}
 use Rattle.base.specs.Run.{run, Wide}
@@ -33,7 +33,7 @@ use Rattle.rules.specs.Picture.{slot}
 use Rattle.rules.specs.Time.{fourBytes}
 use Rattle.rules.specs.Written.{Lent, storedWord, audioBytes, payload, entryBlock, writtenBlock, writtenFrame}
 use Rattle.rules.specs.Write.{Wrote, Takes}
-use Rattle.rules.specs.Paper.{sequences, start, byteAt, bytesAt, soundStart, soundWord, wordOf, asPack, countBy, countSaid}
+use Rattle.rules.specs.Paper.{sequences, byteAt, bytesAt, soundStart, soundWord, wordOf, asPack, countBy, countSaid}
 use Rattle.rules.specs.Refusals.{OwnCount}
 use Rattle.rules.specs.Form.{cut, idForm, headerForm, vauxForm, HasForm}
 use Rattle.rules.specs.Demand2.{given, LaidOut, WritesBack}
@@ -50,21 +50,10 @@ use Rattle.rules.proofs.Numbers.{word-is, back-is, sound-high, sound-lo
 use Rattle.rules.proofs.Write.{write-takes, write-taken}
 use Rattle.rules.proofs.ReadingBack
 use Rattle.rules.proofs.ReadingBack.{four-again}
+use Rattle.rules.proofs.LaidOut.{cut-part, cut-byte}
 use Rattle.rules.proofs.Templates.{id-form, header-form, ssyb-form, vaux-form, aaux-form}
 
--- ---- parts of a block
-
--- a part of a part, and a byte of one
-module _ (n : ℕ) (f : List ℕ) (h q p i m : ℕ) where
-  cut-part : (a o : ℕ) → a + o ≤ m → bytesAt n f h q p (i + a) o ≡ take o (drop a (bytesAt n f h q p i m))
-  cut-part a o room =
-      let e : start n h q p + (i + a) ≡ start n h q p + i + a = omega arith in
-      ap (λ (x : ℕ). take o (drop x f)) e ∙ sym (part-part (start n h q p + i) m a o f room)
-
-  cut-byte : (j : ℕ) → j < m → byteAt n f h q p (i + j) ≡ getD (bytesAt n f h q p i m) j 0
-  cut-byte j l =
-      let e : start n h q p + (i + j) ≡ start n h q p + i + j = omega arith in
-      ap (λ (x : ℕ). getD f x 0) e ∙ sym (getD-take m (drop (start n h q p + i) f) j 0 l ∙ getD-drop (start n h q p + i) f j 0)
+-- ---- run
 
 -- part j of a run that stands from byte a on
 run-cut : (b : List ℕ) (a w k : ℕ) (g : ℕ → List ℕ) (rest : List ℕ) → Wide w g → drop a b ≡ run g k ++ rest → (j : ℕ) → j < k → take w (drop (a + j * w) b) ≡ g j
