@@ -6,7 +6,7 @@ use mathlib.Core.List.{List, [], _∷_, _++_}
 use Prim.Native.Nat.{ℕ, _+_, _*_, _/_, _%_, _≤_, _<_}
 use native.Mathlib.Omega.{arith}
 use lib.ListN.{length, getD, take, drop, replicate, length-drop}
-use lib.Seq.{take-all, drop-drop, take-append-le, drop-append-le, getD-take, getD-drop}
+use lib.Seq.{take-all, drop-drop, take-append-le, drop-append-le}
 use borrow.Author.Tests.{lt-ltb}
 use Rattle.base.specs.Pick.{pick}
 use Rattle.base.specs.Run.{run, Wide}
@@ -33,7 +33,7 @@ use Rattle.rules.specs.Picture.{slot}
 use Rattle.rules.specs.Time.{fourBytes}
 use Rattle.rules.specs.Written.{Lent, storedWord, audioBytes, payload, entryBlock, writtenBlock, writtenFrame}
 use Rattle.rules.specs.Write.{Wrote, Takes}
-use Rattle.rules.specs.Paper.{sequences, start, byteAt, bytesAt, soundStart, soundWord, wordOf, asPack, countBy, countSaid}
+use Rattle.rules.specs.Paper.{sequences, byteAt, bytesAt, soundStart, soundWord, wordOf, asPack, countBy, countSaid}
 use Rattle.rules.specs.Refusals.{OwnCount}
 use Rattle.rules.specs.Form.{cut, idForm, headerForm, vauxForm, HasForm}
 use Rattle.rules.specs.Demand2.{given, LaidOut, WritesBack}
@@ -50,21 +50,10 @@ use Rattle.rules.proofs.Numbers.{sound-high, sound-low, carried-is}
 use Rattle.rules.proofs.Write.{write-takes, write-taken}
 use Rattle.rules.proofs.ReadingBack
 use Rattle.rules.proofs.ReadingBack.{four-again}
+use Rattle.rules.proofs.LaidOut.{cut-part, cut-byte}
 use Rattle.rules.proofs.Templates.{id-form, header-form, ssyb-form, vaux-form, aaux-form}
 
--- ---- parts of a block
-
--- a part of a part, and a byte of one
-module _ (n : ℕ) (f : List ℕ) (h q p i m : ℕ) where
-  cut-part : (a o : ℕ) → a + o ≤ m → bytesAt n f h q p (i + a) o ≡ take o (drop a (bytesAt n f h q p i m))
-  cut-part a o room =
-      let e : start n h q p + (i + a) ≡ start n h q p + i + a = omega arith in
-      ap (λ (x : ℕ). take o (drop x f)) e ∙ sym (part-part (start n h q p + i) m a o f room)
-
-  cut-byte : (j : ℕ) → j < m → byteAt n f h q p (i + j) ≡ getD (bytesAt n f h q p i m) j 0
-  cut-byte j l =
-      let e : start n h q p + (i + j) ≡ start n h q p + i + j = omega arith in
-      ap (λ (x : ℕ). getD f x 0) e ∙ sym (getD-take m (drop (start n h q p + i) f) j 0 l ∙ getD-drop (start n h q p + i) f j 0)
+-- ---- run
 
 -- part j of a run that stands from byte a on
 run-cut : (b : List ℕ) (a w k : ℕ) (g : ℕ → List ℕ) (rest : List ℕ) → Wide w g → drop a b ≡ run g k ++ rest → (j : ℕ) → j < k → take w (drop (a + j * w) b) ≡ g j
@@ -136,7 +125,7 @@ module _ (k : ℕ) (y : System) (known : systemOf k ≡ Known y) (l : Lent) wher
 
     header-written : cut k w h q 0 3 77 ≡ headerForm k
     unfolding payload
-    header-written = behind-written Header 0 (omega arith) ∙ frame-payload y l h q Header 0 hh hq (omega arith) ∙ sym (header-form k y is)
+    header-written = behind-written Header 0 (omega arith) ∙ frame-payload y l h q Header 0 hh hq (omega arith) ∙ sym (header-form k y known)
 
     -- ---- subcode
 
@@ -162,7 +151,7 @@ module _ (k : ℕ) (y : System) (known : systemOf k ≡ Known y) (l : Lent) wher
         let n : 15 * (j / 15) + j % 15 ≡ j = omega arith in
         run-written Vaux (j / 15) (omega arith) 5 15 fifteen (0xFF ∷ 0xFF ∷ []) (λ i. refl) refl (j % 15) (3 + 5 * (j % 15)) (omega arith) (omega arith) (omega arith)
         ∙ ap (λ (i : ℕ). packBytes (vauxPack y q i)) n
-        ∙ sym (vaux-form k y is q j)
+        ∙ sym (vaux-form k y known q j)
 
     vaux-ones-written : (j : ℕ) → j < 3 → cut k w h q (3 + j) 78 2 ≡ replicate 2 0xFF
     unfolding payload
@@ -228,14 +217,14 @@ module _ (k : ℕ) (y : System) (known : systemOf k ≡ Known y) (l : Lent) wher
       headers = λ h q hh hq. header-written h q hh (within hq);
       ssybs = λ h q j hh hq hj.
           ssyb-written h q hh (within hq) j hj
-          ∙ sym (ssyb-form k y is (writtenFrame y l) time group (ap (λ (b : List ℕ). 0x13 ∷ b) time-first) (ap (λ (b : List ℕ). 0x14 ∷ b) group-first) q j hj);
+          ∙ sym (ssyb-form k y known (writtenFrame y l) time group (ap (λ (b : List ℕ). 0x13 ∷ b) time-first) (ap (λ (b : List ℕ). 0x14 ∷ b) group-first) q j hj);
       subcode-ones = λ h q j hh hq. subcode-ones-written h q hh (within hq) j;
       bit-6 = λ r.
           ap (λ (b : ℕ). b / 64 % 2) (cut-byte (sequences k) w 0 0 1 31 4 0 (omega arith) ∙ ap (λ (b : List ℕ). getD b 0 0) time-first)
           ∙ taken-means y time taken .0 (sym (is .rate-is) ∙ r);
       vaux = λ h q j hh hq. vaux-written h q hh (within hq) j;
       vaux-ones = λ h q j hh hq. vaux-ones-written h q hh (within hq) j;
-      aaux = λ h q a hh hq ha. aaux-written h q hh (within hq) a ha ∙ sym (aaux-form k y is (writtenFrame y l) (l .count) size-first h q (within hq) a);
+      aaux = λ h q a hh hq ha. aaux-written h q hh (within hq) a ha ∙ sym (aaux-form k y known (writtenFrame y l) (l .count) size-first h q (within hq) a);
       lf = ap (λ (b : ℕ). b / 64) size-first ∙ omega (arith, size-below (l .count));
       own = own-first;
       tails = λ c t c1 c8 past ht.

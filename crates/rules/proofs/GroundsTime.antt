@@ -177,30 +177,32 @@ is-group BinaryGroup e = refl
 is-group TimeCode e = let z : _≡_ {A = ℕ} 0 1 = cc in absurd (omega arith)
 is-group NoPack e = let z : _≡_ {A = ℕ} 0 1 = cc in absurd (omega arith)
 
-module _ (k : ℕ) (y : System) (known : systemOf k ≡ Known y) (q j : ℕ) where
-  half-first : ltb q (sequences k / 2) ≡ isFirst y q
+module _ (k : ℕ) (y : System) (known : systemOf k ≡ Known y) (q : ℕ) where
+  -- "the first n/2 sequences"
+  pub half-first : ltb q (sequences k / 2) ≡ isFirst y q
   unfolding halfOf
   half-first = ap (λ (n : ℕ). ltb q (n / 2)) (columns k y known .sequences-is)
 
-  pub holds-time : j < 12 → holdsTime (sequences k) q j ≡ isTime (kindOf (isFirst y q) j)
-  unfolding holdsTime pick
-  holds-time l = rw half-first (by-bool (isFirst y q) (λ e. rw e (first-time j l)) (λ e. rw e (second-time j l)))
+  module _ (j : ℕ) where
+    pub holds-time : j < 12 → holdsTime (sequences k) q j ≡ isTime (kindOf (isFirst y q) j)
+    unfolding holdsTime pick
+    holds-time l = rw half-first (by-bool (isFirst y q) (λ e. rw e (first-time j l)) (λ e. rw e (second-time j l)))
 
-  pub holds-group : j < 12 → holdsGroup (sequences k) q j ≡ isGroup (kindOf (isFirst y q) j)
-  unfolding holdsGroup pick
-  holds-group l = rw half-first (by-bool (isFirst y q) (λ e. rw e (first-group j l)) (λ e. rw e (second-group j l)))
+    pub holds-group : j < 12 → holdsGroup (sequences k) q j ≡ isGroup (kindOf (isFirst y q) j)
+    unfolding holdsGroup pick
+    holds-group l = rw half-first (by-bool (isFirst y q) (λ e. rw e (first-group j l)) (λ e. rw e (second-group j l)))
 
-  time-below : holdsTime (sequences k) q j ≡ true → j < 12
-  unfolding holdsTime pick
-  time-below e =
-      by-lt j 12 (λ l. l)
-      (λ g. by-bool (ltb q (sequences k / 2)) (λ t. absurd (clash (rw t at e) (one-below j g .0))) (λ t. absurd (clash (rw t at e) (one-below j g .1))))
+    time-below : holdsTime (sequences k) q j ≡ true → j < 12
+    unfolding holdsTime pick
+    time-below e =
+        by-lt j 12 (λ l. l)
+        (λ g. by-bool (ltb q (sequences k / 2)) (λ t. absurd (clash (rw t at e) (one-below j g .0))) (λ t. absurd (clash (rw t at e) (one-below j g .1))))
 
-  group-below : holdsGroup (sequences k) q j ≡ true → j < 12
-  unfolding holdsGroup pick
-  group-below e =
-      by-lt j 12 (λ l. l)
-      (λ g. by-bool (ltb q (sequences k / 2)) (λ t. absurd (clash (rw t at e) (one-below j g .2))) (λ t. absurd (clash (rw t at e) refl)))
+    group-below : holdsGroup (sequences k) q j ≡ true → j < 12
+    unfolding holdsGroup pick
+    group-below e =
+        by-lt j 12 (λ l. l)
+        (λ g. by-bool (ltb q (sequences k / 2)) (λ t. absurd (clash (rw t at e) (one-below j g .2))) (λ t. absurd (clash (rw t at e) refl)))
 
 -- a frame of system k
 module _ (k : ℕ) (y : System) (known : systemOf k ≡ Known y) (f : List ℕ) where

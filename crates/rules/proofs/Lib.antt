@@ -35,6 +35,7 @@ pub mod Answering
 pub mod ReadingOut
 pub mod Listing
 pub mod ReadingBack
+pub mod LaidOut
 pub mod Templates
 pub mod Form
 pub mod Salvaging
