@@ -48,7 +48,6 @@ use Rattle.rules.proofs.Written.{payload-length, frame-length, frame-bl
 use Rattle.rules.proofs.Paper.{Columns, columns}
 use Rattle.rules.proofs.Numbers.{sound-high, sound-low, carried-is}
 use Rattle.rules.proofs.Write.{write-takes, write-taken}
-use Rattle.rules.proofs.ReadingBack
 use Rattle.rules.proofs.ReadingBack.{four-again}
 use Rattle.rules.proofs.LaidOut.{cut-part, cut-byte}
 use Rattle.rules.proofs.Templates.{id-form, header-form, ssyb-form, vaux-form, aaux-form}
@@ -259,28 +258,3 @@ module _ (k : ℕ) (y : System) (known : systemOf k ≡ Known y) (l : Lent) (siz
         behind-written k y known l h q hh hq′ Video (5 * g + m) (omega arith)
         ∙ frame-macroblock y l h q (5 * g + m) hh hq′ (omega arith) b carries (omega (arith, takes .pictures, carried-lies y (slot h q (5 * g + m)) b carries .0));
   }
-
--- ---- WritesBack
-
-pub writes-back : {k : ℕ} {y : System} {l : Lent} {frame f : List ℕ} → systemOf k ≡ Known y → Wrote k l frame 0 f → WritesBack k l f
-writes-back {k} {y} {l} {frame} {f} known wrote =
-    let takes = write-takes k y known l frame wrote in
-    let is = columns k y known in
-    record {
-      laid-out = subst (LaidOut k l) (sym (write-taken k y known l frame takes wrote .1)) (laid-out k y known l (length frame) takes);
-      reads-back = λ c samples b o c1 c8 room hb read.
-          let back = ReadingBack.writes-back known wrote .reads-back refl c samples b
-          (record { check = o .check; audio = o .audio; samples = o .samples; number = o .number; part = o .part; time = o .time })
-          (both-hold (lt-ltb 0 c c1) (lt-ltb c 9 c8)) (room ∙ is .positions-is) (subst (λ (n : ℕ). b < n) (is .macroblocks-is) hb)
-          (record { check = read .check; audio = read .audio; number = read .number; part = read .part; time = read .time }) in
-          record {
-            check = back .check;
-            audio = back .audio;
-            sample = λ t ht. back .sample t ht ∙ back-is (given l c t) (given-in l c t c1 c8 (takes .sounds) (takes .levels) ht);
-            rest = back .rest;
-            size = back .size;
-            number = back .number;
-            part = back .part;
-            time = back .time;
-          };
-    }

@@ -27,14 +27,14 @@ use Rattle.rules.specs.Write.{Takes}
 use Rattle.rules.specs.Paper.{back}
 use Rattle.rules.specs.Demand2.{Strict, StrictlyRead, given, ReadsBack}
 use Rattle.rules.proofs.Systems.{count-below}
+use Rattle.rules.proofs.Samples.{back-is}
 use Rattle.rules.proofs.Picture.{carrier-one, carried-lies}
 use Rattle.rules.proofs.Audio.{audio-rows, audio-taken, audio-sample}
 use Rattle.rules.proofs.Macroblock.{macroblock-rows, macroblock-carried}
 use Rattle.rules.proofs.Time.{time-rows, time-taken}
 use Rattle.rules.proofs.Answering.{audio-number, time-number}
-use Rattle.rules.proofs.Written.{frame-length, frame-block, frame-high, frame-low, stored-given}
+use Rattle.rules.proofs.Written.{frame-length, given-in, stored-given}
 use Rattle.rules.proofs.Back.{rows-written, check-written, count-written, audio-written, sample-written, picture-written, slot-written, group-written, clock-written, settled-written}
-use Rattle.rules.proofs.Write.{taken-takes, write-taken}
 
 -- ---- isAudio: 1 to 8
 

@@ -53,8 +53,6 @@ use Rattle.rules.proofs.Answering.{says-number, audio-number, time-numb
 use Rattle.rules.proofs.Paper.{columns, by-system, channel-by, byte-in, bytes-at, block-bytes, rest-bytes}
 use Rattle.rules.proofs.Numbers.{sound-heard, carried-is}
 use Rattle.rules.proofs.GroundsAudio.{count-first}
-use Rattle.rules.proofs.Write.{write-1}
-use Rattle.rules.proofs.Form.{writes-back}
 
 -- ---- read_id
 
@@ -226,33 +224,3 @@ read-out {k} {f} {c} {samples} {b} {o} read =
       time = λ z. answer-out (read .time) (time z) .0;
       group = λ z. answer-out (read .time) (time z) .1;
     }
-
--- ---- ReadsBack: what meets it is the answer
-
-one-answer : {l : Lent} {c : ℕ} {samples : List ℤ} {b : ℕ} {o o′ : Strict} → ReadsBack l c samples b o → ReadsBack l c samples b o′ → o ≡ o′
-one-answer {l} {c} {samples} {b} {o} {o′} m m′ =
-    let same : o .samples ≡ o′ .samples =
-    ext-getD (pos 0) (o .samples) (o′ .samples) (m .size ∙ sym (m′ .size)) (λ i h.
-    by-lt i (l .count)
-    (λ below. m .sample i below ∙ sym (m′ .sample i below))
-    (λ above.
-    let e : l .count + (i - l .count) ≡ i = omega arith in
-    subst (λ (j : ℕ). getD (o .samples) j (pos 0) ≡ getD (o′ .samples) j (pos 0)) e
-    (sym (getD-drop (l .count) (o .samples) (i - l .count) (pos 0))
-    ∙ ap (λ (xs : List ℤ). getD xs (i - l .count) (pos 0)) (m .rest ∙ sym (m′ .rest))
-    ∙ getD-drop (l .count) (o′ .samples) (i - l .count) (pos 0)))) in
-    λ i. record {
-      check = (m .check ∙ sym (m′ .check)) i;
-      audio = (m .audio ∙ sym (m′ .audio)) i;
-      samples = same i;
-      number = (m .number ∙ sym (m′ .number)) i;
-      part = (m .part ∙ sym (m′ .part)) i;
-      time = (m .time ∙ sym (m′ .time)) i;
-    }
-
-pub strict-decided : {k : ℕ} {l : Lent} {frame f : List ℕ} {c : ℕ} {samples : List ℤ} {b : ℕ} {o o′ : Strict} → Wrote k l frame 0 f → 0 < c → c < 9
-    → length samples ≡ positions k → b < macroblocks k → StrictlyRead k f c samples b o → ReadsBack l c samples b o′ → o′ ≡ o
-strict-decided {k} {l} {frame} wrote c1 c8 room within read m =
-    by-system k
-    (λ none. absurd (omega (arith, wrote .answer, write-1 k l (length frame) none)))
-    (λ y known. one-answer m (writes-back known wrote .reads-back _ _ _ _ c1 c8 room within read))
