@@ -7,11 +7,9 @@ use Prim.Native.Nat.{ℕ, _+_, _*_, _/_, _%_, _≤_, _<_}
 use native.Mathlib.Omega.{arith}
 use lib.ListN.{length, getD, take, drop, replicate, length-drop}
 use lib.Seq.{take-all, drop-drop, take-append-le, drop-append-le}
-use borrow.Author.Tests.{lt-ltb}
 use Rattle.base.specs.Pick.{pick}
 use Rattle.base.specs.Run.{run, Wide}
 use Rattle.base.proofs.Parts.{part-part}
-use Rattle.base.proofs.Picks.{both-hold}
 use Rattle.base.proofs.Runs.{end-within, length-run, run-at}
 use Rattle.rules.specs.declared.System.{System}
 use Rattle.rules.specs.declared.SystemNumber.the-variants.{Known}
@@ -32,22 +30,21 @@ use Rattle.rules.specs.Sound.{audioAt}
 use Rattle.rules.specs.Picture.{slot}
 use Rattle.rules.specs.Time.{fourBytes}
 use Rattle.rules.specs.Written.{Lent, storedWord, audioBytes, payload, entryBlock, writtenBlock, writtenFrame}
-use Rattle.rules.specs.Write.{Wrote, Takes}
+use Rattle.rules.specs.Write.{Takes}
 use Rattle.rules.specs.Paper.{sequences, byteAt, bytesAt, soundStart, soundWord, wordOf, asPack, countBy, countSaid}
 use Rattle.rules.specs.Refusals.{OwnCount}
 use Rattle.rules.specs.Form.{cut, idForm, headerForm, vauxForm, HasForm}
-use Rattle.rules.specs.Demand2.{given, LaidOut, WritesBack}
+use Rattle.rules.specs.Demand2.{given, LaidOut}
 use Rattle.rules.proofs.Systems.{count-cases, count-below, sequences-le, sequences-some}
 use Rattle.rules.proofs.Packs.{taken-means}
 use Rattle.rules.proofs.Subcode.{ssyb-length, subcode-rest, first-when}
 use Rattle.rules.proofs.Vaux.{vaux-rest}
 use Rattle.rules.proofs.Aaux.{size-below, as-count}
-use Rattle.rules.proofs.Samples.{word-is, back-is, bytes-word}
+use Rattle.rules.proofs.Samples.{word-is, bytes-word}
 use Rattle.rules.proofs.Picture.{carried-lies}
 use Rattle.rules.proofs.Written.{payload-length, frame-length, frame-block, frame-payload, frame-high, frame-low, given-in, stored-word, stored-tail, frame-macroblock, frame-empty}
 use Rattle.rules.proofs.Paper.{Columns, columns}
 use Rattle.rules.proofs.Numbers.{sound-high, sound-low, carried-is}
-use Rattle.rules.proofs.Write.{write-takes, write-taken}
 use Rattle.rules.proofs.ReadingBack.{four-again}
 use Rattle.rules.proofs.LaidOut.{cut-part, cut-byte}
 use Rattle.rules.proofs.Templates.{id-form, header-form, ssyb-form, vaux-form, aaux-form}

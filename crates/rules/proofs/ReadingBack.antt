@@ -1,17 +1,15 @@
 -- The workshop of the second demand: what the strict reads answer of a written frame. Assumes nothing.
 use mathlib.Core.Path.{_≡_, refl, sym, ap, _∙_, subst}
-use mathlib.Core.Bool.{true}
 use mathlib.Core.List.{List, [], _∷_, _++_}
 use Prim.Native.Nat.{ℕ, _+_, _-_, _*_, _≤_, _<_}
 use native.Mathlib.Omega.{arith}
-use lib.Dec.{ltb}
-use borrow.Author.Tests.{eq-eqb, lt-ltb, ltb-true}
+use borrow.Author.Tests.{eq-eqb, lt-ltb}
 use lib.IntN.{ℤ, pos}
 use lib.ListN.{length, getD, take, drop, length-append, length-drop}
 use lib.Seq.{ext-getD, getD-drop, drop-at, take-all}
 use Rattle.base.specs.Run.{run, tab}
 use Rattle.base.proofs.Cases.{by-lt}
-use Rattle.base.proofs.Picks.{both-held, both-hold}
+use Rattle.base.proofs.Picks.{both-hold}
 use Rattle.base.proofs.Runs.{length-tab, tab-part}
 use Rattle.rules.specs.declared.System.{System}
 use Rattle.rules.specs.declared.SystemNumber.the-variants.{Known}
@@ -19,7 +17,7 @@ use Rattle.rules.specs.declared.AudioAnswer.{AudioAnswer}
 use Rattle.rules.specs.Systems.{positionsOf, macroblocksOf, systemOf}
 use Rattle.rules.specs.Samples.{numberOf}
 use Rattle.rules.specs.Reading.{readSample}
-use Rattle.rules.specs.Audio.{isAudio, countFor, audioNumber}
+use Rattle.rules.specs.Audio.{countFor, audioNumber}
 use Rattle.rules.specs.Macroblock.{macroblockNumber, macroblockPart}
 use Rattle.rules.specs.Time.{timeNumber}
 use Rattle.rules.specs.Written.{Lent, writtenFrame}
@@ -28,21 +26,12 @@ use Rattle.rules.specs.Paper.{back}
 use Rattle.rules.specs.Demand2.{Strict, StrictlyRead, given, ReadsBack}
 use Rattle.rules.proofs.Systems.{count-below}
 use Rattle.rules.proofs.Samples.{back-is}
-use Rattle.rules.proofs.Picture.{carrier-one, carried-lies}
+use Rattle.rules.proofs.Picture.{carrier-one}
 use Rattle.rules.proofs.Audio.{audio-rows, audio-taken, audio-sample}
 use Rattle.rules.proofs.Macroblock.{macroblock-rows, macroblock-carried}
 use Rattle.rules.proofs.Time.{time-rows, time-taken}
-use Rattle.rules.proofs.Answering.{audio-number, time-number}
 use Rattle.rules.proofs.Written.{frame-length, given-in, stored-given}
 use Rattle.rules.proofs.Back.{rows-written, check-written, count-written, audio-written, sample-written, picture-written, slot-written, group-written, clock-written, settled-written}
-
--- ---- isAudio: 1 to 8
-
-pub audio-above : (c : ℕ) → isAudio c ≡ true → 0 < c
-audio-above c e = ltb-true 0 c (both-held (ltb 0 c) (ltb c 9) e .0)
-
-pub audio-below : (c : ℕ) → isAudio c ≡ true → c < 9
-audio-below c e = ltb-true c 9 (both-held (ltb 0 c) (ltb c 9) e .1)
 
 -- ---- fourBytes: those that a pack was made of
 

@@ -1,17 +1,17 @@
 -- The workshop of the second demand: what is read of any ID and any frame, in document 01's numbers and bytes. Assumes nothing.
-use mathlib.Core.Path.{_≡_, refl, sym, ap, ap₂, _∙_, subst}
+use mathlib.Core.Path.{_≡_, refl, sym, ap, ap₂, _∙_}
 use mathlib.Core.List.{List, [], _∷_}
-use Prim.Native.Nat.{ℕ, _+_, _-_, _*_, _<_}
+use Prim.Native.Nat.{ℕ, _+_, _*_, _<_}
 use native.Mathlib.Omega.{arith}
 use borrow.Author.Tests.{eq-eqb}
 use lib.Dec.{eqb, eqb→eq}
 use lib.IntN.{ℤ, pos}
 use lib.ListN.{length, getD, drop, length-append, length-drop}
-use lib.Seq.{ext-getD, getD-drop, drop-at}
+use lib.Seq.{drop-at}
 use Rattle.base.specs.Pick.{pick}
 use Rattle.base.specs.Run.{run, tab}
 use Rattle.base.proofs.Below.{below-at}
-use Rattle.base.proofs.Cases.{by-lt, by-eq}
+use Rattle.base.proofs.Cases.{by-eq}
 use Rattle.base.proofs.Picks.{pick-true}
 use Rattle.base.proofs.Runs.{length-tab, tab-part}
 use Rattle.rules.specs.declared.System.{System}
@@ -37,10 +37,8 @@ use Rattle.rules.specs.Reading.{readSample}
 use Rattle.rules.specs.Audio.{countFor, audioNumber, AudioRead}
 use Rattle.rules.specs.Macroblock.{macroblockNumber, slotBytes, macroblockAt, slotStart, carrierStart, MacroblockRead, MacroblockLies}
 use Rattle.rules.specs.Time.{withBit6, settled, timeFirst, groupFirst, fourBytes, timeNumber, TimeRead}
-use Rattle.rules.specs.Paper.{sequences, positions, macroblocks, start, byteAt, bytesAt, soundWord, heard, slotPlace, carried}
-use Rattle.rules.specs.Written.{Lent}
-use Rattle.rules.specs.Write.{Wrote}
-use Rattle.rules.specs.Demand2.{IdOut, ViewOut, MacroblockOut, Strict, StrictlyRead, ReadOut, ReadsBack, answered}
+use Rattle.rules.specs.Paper.{sequences, start, byteAt, bytesAt, soundWord, heard, slotPlace, carried}
+use Rattle.rules.specs.Demand2.{IdOut, ViewOut, MacroblockOut, Strict, StrictlyRead, ReadOut, answered}
 use Rattle.rules.proofs.Places.{code-one, code-section}
 use Rattle.rules.proofs.Blocks.{block-in-sequence, block-length, part-taken}
 use Rattle.rules.proofs.Systems.{sequences-some}
