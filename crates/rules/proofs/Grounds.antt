@@ -1,24 +1,21 @@
 -- What each refusal number is given for, in document 01's bytes, holds exactly where the test of the definitions does. Assumes nothing.
-use mathlib.Core.Path.{_≡_, refl, sym, ap, _∙_, subst}
-use mathlib.Core.Bool.{Bool, true, false, not, _&&_}
+use mathlib.Core.Path.{_≡_, refl, sym, ap, _∙_}
+use mathlib.Core.Bool.{Bool, true, false, not}
 use mathlib.Core.List.{List, _∷_}
-use mathlib.Core.Logic.{_⊎_, inl, inr, ⊎-elim, _≢_}
+use mathlib.Core.Logic.{inl, inr, ⊎-elim, _≢_}
 use Prim.Native.Nat.{ℕ, zero, suc, _+_, _*_, _/_, _%_, _≤_, _<_}
 use native.Mathlib.Nat.{add-zero, not-suc-le-zero}
 use native.Mathlib.Omega.{arith}
-use lib.Dec.{eqb}
-use lib.ListN.{length, getD, take, drop, length-drop}
+use lib.ListN.{length, getD, drop, length-drop}
 use lib.Seq.{getD-take, getD-drop, length-take-le}
 use borrow.Author.Tests.{eq-eqb, ne-eqb, eqb-true, eqb-false, not-true, not-false}
 use Rattle.base.specs.Calls.{Refusal, firstOf, _when_}
-use Rattle.base.specs.Pick.{pick}
 use Rattle.base.proofs.Cases.{by-bool, by-eq}
-use Rattle.base.proofs.Picks.{neither, both-held, both-hold}
+use Rattle.base.proofs.Picks.{neither}
 use Rattle.rules.specs.declared.System.{System}
 use Rattle.rules.specs.declared.SystemNumber.the-variants.{Known}
 use Rattle.rules.specs.declared.Pack.{Pack}
-use Rattle.rules.specs.Systems.{sequencesOf, halfOf, rateOf, stypeOf, systemOf}
-use Rattle.rules.specs.Places.{placeIn}
+use Rattle.rules.specs.Systems.{sequencesOf, rateOf, stypeOf, systemOf}
 use Rattle.rules.specs.Blocks.{sequenceAt, blockIn}
 use Rattle.rules.specs.Header.{flagged}
 use Rattle.rules.specs.Vaux.{vsAt, vsOk}
@@ -28,7 +25,7 @@ use Rattle.rules.specs.Check.{everySequence, headerIn, vsIn, dsfAgrees, 
 use Rattle.rules.specs.Paper.{sequences, rate, stype, byteAt, faultOf, vauxPlace, vauxByte, vsPack}
 use Rattle.rules.specs.Refusals.{Table, _if_, _else_, FirstFault, Some, WrongDsf, WrongVs, Flagged, vsByte}
 use Rattle.rules.proofs.Paper.{Columns, columns, fault-is, byte-in}
-use Rattle.rules.proofs.Tables.{Exactly, row-exactly, row-fault}
+use Rattle.rules.proofs.Tables.{Exactly, row-exactly}
 use Rattle.rules.proofs.Vaux.{vs-means, vs-when, vs-below}
 use Rattle.rules.proofs.Faults.{faults-stream}
 use Rattle.rules.proofs.Check.{every-means, every-some, unnamed-none, fault-first, fault-none}

@@ -2,28 +2,27 @@
 use mathlib.Core.Path.{_≡_, refl, sym, ap, _∙_, subst}
 use mathlib.Core.Bool.{Bool, true, false, not}
 use mathlib.Core.List.{List, _∷_}
-use mathlib.Core.Logic.{_⊎_, inl, inr, ⊎-elim, _≢_}
-use Prim.Native.Nat.{ℕ, _+_, _*_, _/_, _%_, _≤_, _<_}
+use mathlib.Core.Logic.{inl, inr, ⊎-elim}
+use Prim.Native.Nat.{ℕ, _+_, _*_, _/_, _%_, _<_}
 use native.Mathlib.Nat.{add-zero}
 use native.Mathlib.Omega.{arith}
 use lib.ListN.{getD}
 use borrow.Author.Tests.{eq-eqb, ne-eqb, eqb-true, eqb-false, not-true, not-false}
 use Rattle.base.specs.Calls.{Refusal, firstOf, _when_}
-use Rattle.base.specs.Pick.{pick}
 use Rattle.base.proofs.Cases.{by-bool, by-eq, by-lt}
 use Rattle.rules.specs.declared.System.{System}
 use Rattle.rules.specs.declared.SystemNumber.the-variants.{Known}
 use Rattle.rules.specs.declared.Pack.{Pack}
-use Rattle.rules.specs.Systems.{sequencesOf, halfOf, countsOf, isCount, rateOf, systemOf}
+use Rattle.rules.specs.Systems.{halfOf, countsOf, isCount, rateOf, systemOf}
 use Rattle.rules.specs.Blocks.{sequenceAt, blockIn}
-use Rattle.rules.specs.Aaux.{asAt, countOf, countIn, modeOf, asOk, As}
+use Rattle.rules.specs.Aaux.{asAt, countOf, countIn, As}
 use Rattle.rules.specs.Sound.{difOf}
 use Rattle.rules.specs.Audio.{firstOfHalf, everyRow, asIn, asKeeps, countIs, countFor}
 use Rattle.rules.specs.Paper.{sequences, rate, soundChannel, soundFirst, asPack, countBy, countSaid}
 use Rattle.rules.specs.Refusals.{Table, _if_, _else_, SomeRow, OwnCount, asByte, WrongAs, CountsDiffer}
 use Rattle.rules.specs.Refusals.WrongAs.{wrongHeader, wrongLf, wrongSize, wrongChn, wrongMode, wrongRate, wrongStype, wrongSmpQu}
 use Rattle.rules.proofs.Paper.{Columns, columns}
-use Rattle.rules.proofs.Systems.{half-cases, half-twice, count-cases}
+use Rattle.rules.proofs.Systems.{half-cases, count-cases}
 use Rattle.rules.proofs.Sound.{half-some}
 use Rattle.rules.proofs.Aaux.{as-means, as-when, as-below}
 use Rattle.rules.proofs.Check.{from-means, from-some}

@@ -1,38 +1,38 @@
 -- What 26, 27, 31 and 32 are given for, in document 01's bytes. Assumes nothing.
 use mathlib.Core.Path.{_≡_, refl, sym, ap, _∙_, subst}
-use mathlib.Core.Bool.{Bool, true, false, not, _&&_}
+use mathlib.Core.Bool.{true, false, not, _&&_}
 use mathlib.Core.List.{List, [], _∷_}
-use mathlib.Core.Logic.{_⊎_, inl, inr, ⊎-elim, _≢_}
+use mathlib.Core.Logic.{inl, inr, ⊎-elim, _≢_}
 use Prim.Native.Nat.{ℕ, zero, suc, _+_, _*_, _/_, _%_, _≤_, _<_}
-use native.Mathlib.Nat.{add-zero, not-suc-le-zero}
+use native.Mathlib.Nat.{add-zero}
 use native.Mathlib.Omega.{arith}
 use lib.Dec.{eqb, ltb, leb}
 use lib.IntN.{ℤ, pos, negsuc}
-use lib.ListN.{length, getD}
-use borrow.Author.Tests.{eq-eqb, ne-eqb, eqb-true, eqb-false, not-true, not-false, lt-leb, le-leb, leb-true, leb-false}
+use lib.ListN.{getD}
+use borrow.Author.Tests.{ne-eqb, not-true, not-false, leb-true, leb-false}
 use Rattle.base.specs.Calls.{Refusal, firstOf, _when_}
 use Rattle.base.specs.Pick.{pick}
-use Rattle.base.proofs.Below.{below-at, below-means, below-some}
+use Rattle.base.proofs.Below.{below-at, below-some}
 use Rattle.base.proofs.Cases.{by-bool, by-eq, by-lt}
-use Rattle.base.proofs.Picks.{pick-true, pick-false, both-held, both-hold}
+use Rattle.base.proofs.Picks.{both-held, both-hold}
 use Rattle.rules.specs.declared.System.{System}
 use Rattle.rules.specs.declared.SystemNumber.the-variants.{Known}
 use Rattle.rules.specs.declared.Pack.{Pack}
 use Rattle.rules.specs.declared.SubcodePack.{SubcodePack}
 use Rattle.rules.specs.declared.SubcodePack.the-variants.{TimeCode, BinaryGroup, NoPack}
-use Rattle.rules.specs.Systems.{sequencesOf, halfOf, rateOf, systemOf}
+use Rattle.rules.specs.Systems.{halfOf, rateOf, systemOf}
 use Rattle.rules.specs.Blocks.{sequenceAt, blockIn}
-use Rattle.rules.specs.TimeCode.{valueIn, digitsOk, timeOk, groupOk, timePack, timeTaken, Digits, Clock}
+use Rattle.rules.specs.TimeCode.{timeOk, groupOk, timePack, timeTaken, Digits, Clock}
 use Rattle.rules.specs.Subcode.{isFirst, kindOf}
 use Rattle.rules.specs.Samples.{inRange, allInRange}
 use Rattle.rules.specs.Check.{everySequence}
 use Rattle.rules.specs.Time.{ssybIn, timeFirst, groupFirst, withBit6, settled, samePack, packAgrees, subcodeAgrees}
-use Rattle.rules.specs.Paper.{sequences, rate, lastFrame, byteAt, ssybPlace, ssybByte, isOneOf, holdsTime, holdsGroup}
+use Rattle.rules.specs.Paper.{sequences, rate, lastFrame, isOneOf, holdsTime, holdsGroup}
 use Rattle.rules.specs.Refusals.{Table, _if_, _else_, Some, WrongDigits, WrongClock, ssybAt, WrongFirst, compared, Differs, Outside, SomeOutside, WrongTime}
 use Rattle.rules.specs.Refusals.WrongFirst.{wrongTimeHeader, wrongDigit, wrongGroupHeader}
 use Rattle.rules.specs.Refusals.Differs.{otherTime, otherGroup}
 use Rattle.rules.proofs.Paper.{Columns, columns}
-use Rattle.rules.proofs.Packs.{digits-means, clock-means, clock-when, time-means, time-when, group-means, group-when, taken-means, taken-when}
+use Rattle.rules.proofs.Packs.{time-means, time-when, group-means, group-when, taken-means, taken-when}
 use Rattle.rules.proofs.Subcode.{isTime, isGroup, agree, agree-same}
 use Rattle.rules.proofs.Samples.{all-in}
 use Rattle.rules.proofs.Time.{same-when, subcode-time, subcode-group}
@@ -177,30 +177,32 @@ is-group BinaryGroup e = refl
 is-group TimeCode e = let z : _≡_ {A = ℕ} 0 1 = cc in absurd (omega arith)
 is-group NoPack e = let z : _≡_ {A = ℕ} 0 1 = cc in absurd (omega arith)
 
-module _ (k : ℕ) (y : System) (known : systemOf k ≡ Known y) (q j : ℕ) where
-  half-first : ltb q (sequences k / 2) ≡ isFirst y q
+module _ (k : ℕ) (y : System) (known : systemOf k ≡ Known y) (q : ℕ) where
+  -- "the first n/2 sequences"
+  pub half-first : ltb q (sequences k / 2) ≡ isFirst y q
   unfolding halfOf
   half-first = ap (λ (n : ℕ). ltb q (n / 2)) (columns k y known .sequences-is)
 
-  pub holds-time : j < 12 → holdsTime (sequences k) q j ≡ isTime (kindOf (isFirst y q) j)
-  unfolding holdsTime pick
-  holds-time l = rw half-first (by-bool (isFirst y q) (λ e. rw e (first-time j l)) (λ e. rw e (second-time j l)))
+  module _ (j : ℕ) where
+    pub holds-time : j < 12 → holdsTime (sequences k) q j ≡ isTime (kindOf (isFirst y q) j)
+    unfolding holdsTime pick
+    holds-time l = rw half-first (by-bool (isFirst y q) (λ e. rw e (first-time j l)) (λ e. rw e (second-time j l)))
 
-  pub holds-group : j < 12 → holdsGroup (sequences k) q j ≡ isGroup (kindOf (isFirst y q) j)
-  unfolding holdsGroup pick
-  holds-group l = rw half-first (by-bool (isFirst y q) (λ e. rw e (first-group j l)) (λ e. rw e (second-group j l)))
+    pub holds-group : j < 12 → holdsGroup (sequences k) q j ≡ isGroup (kindOf (isFirst y q) j)
+    unfolding holdsGroup pick
+    holds-group l = rw half-first (by-bool (isFirst y q) (λ e. rw e (first-group j l)) (λ e. rw e (second-group j l)))
 
-  time-below : holdsTime (sequences k) q j ≡ true → j < 12
-  unfolding holdsTime pick
-  time-below e =
-      by-lt j 12 (λ l. l)
-      (λ g. by-bool (ltb q (sequences k / 2)) (λ t. absurd (clash (rw t at e) (one-below j g .0))) (λ t. absurd (clash (rw t at e) (one-below j g .1))))
+    time-below : holdsTime (sequences k) q j ≡ true → j < 12
+    unfolding holdsTime pick
+    time-below e =
+        by-lt j 12 (λ l. l)
+        (λ g. by-bool (ltb q (sequences k / 2)) (λ t. absurd (clash (rw t at e) (one-below j g .0))) (λ t. absurd (clash (rw t at e) (one-below j g .1))))
 
-  group-below : holdsGroup (sequences k) q j ≡ true → j < 12
-  unfolding holdsGroup pick
-  group-below e =
-      by-lt j 12 (λ l. l)
-      (λ g. by-bool (ltb q (sequences k / 2)) (λ t. absurd (clash (rw t at e) (one-below j g .2))) (λ t. absurd (clash (rw t at e) refl)))
+    group-below : holdsGroup (sequences k) q j ≡ true → j < 12
+    unfolding holdsGroup pick
+    group-below e =
+        by-lt j 12 (λ l. l)
+        (λ g. by-bool (ltb q (sequences k / 2)) (λ t. absurd (clash (rw t at e) (one-below j g .2))) (λ t. absurd (clash (rw t at e) refl)))
 
 -- a frame of system k
 module _ (k : ℕ) (y : System) (known : systemOf k ≡ Known y) (f : List ℕ) where

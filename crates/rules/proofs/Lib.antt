@@ -35,10 +35,10 @@ pub mod Answering
 pub mod ReadingOut
 pub mod Listing
 pub mod ReadingBack
+pub mod LaidOut
+pub mod WritingBack
 pub mod Templates
 pub mod Form
 pub mod Salvaging
-pub mod Salvages
 pub mod Worthless
-pub mod Stopped
 pub mod Demands

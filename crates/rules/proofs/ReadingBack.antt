@@ -1,60 +1,37 @@
--- The workshop of the second demand: what the writer takes, how it is laid out, and that it reads back. Assumes nothing.
+-- The workshop of the second demand: what the strict reads answer of a written frame. Assumes nothing.
 use mathlib.Core.Path.{_≡_, refl, sym, ap, _∙_, subst}
-use mathlib.Core.Bool.{true}
 use mathlib.Core.List.{List, [], _∷_, _++_}
 use Prim.Native.Nat.{ℕ, _+_, _-_, _*_, _≤_, _<_}
 use native.Mathlib.Omega.{arith}
-use lib.Dec.{ltb}
-use borrow.Author.Tests.{eq-eqb, lt-ltb, ltb-true}
+use borrow.Author.Tests.{eq-eqb, lt-ltb}
 use lib.IntN.{ℤ, pos}
 use lib.ListN.{length, getD, take, drop, length-append, length-drop}
 use lib.Seq.{ext-getD, getD-drop, drop-at, take-all}
 use Rattle.base.specs.Run.{run, tab}
 use Rattle.base.proofs.Cases.{by-lt}
-use Rattle.base.proofs.Picks.{both-held}
+use Rattle.base.proofs.Picks.{both-hold}
 use Rattle.base.proofs.Runs.{length-tab, tab-part}
 use Rattle.rules.specs.declared.System.{System}
 use Rattle.rules.specs.declared.SystemNumber.the-variants.{Known}
 use Rattle.rules.specs.declared.AudioAnswer.{AudioAnswer}
 use Rattle.rules.specs.Systems.{positionsOf, macroblocksOf, systemOf}
-use Rattle.rules.specs.Samples.{numberOf, backOf}
+use Rattle.rules.specs.Samples.{numberOf}
 use Rattle.rules.specs.Reading.{readSample}
-use Rattle.rules.specs.Audio.{isAudio, countFor, audioNumber}
+use Rattle.rules.specs.Audio.{countFor, audioNumber}
 use Rattle.rules.specs.Macroblock.{macroblockNumber, macroblockPart}
-use Rattle.rules.specs.Time.{timeNumber, timeFound}
+use Rattle.rules.specs.Time.{timeNumber}
 use Rattle.rules.specs.Written.{Lent, writtenFrame}
-use Rattle.rules.specs.Write.{Wrote, Takes}
-use Rattle.rules.specs.Statements.{Strict, StrictlyRead, ReadOut, LaidOut, given, ReadsBack, WritesBack}
+use Rattle.rules.specs.Write.{Takes}
+use Rattle.rules.specs.Paper.{back}
+use Rattle.rules.specs.Demand2.{Strict, StrictlyRead, given, ReadsBack}
 use Rattle.rules.proofs.Systems.{count-below}
-use Rattle.rules.proofs.Picture.{carrier-one, carried-lies}
+use Rattle.rules.proofs.Samples.{back-is}
+use Rattle.rules.proofs.Picture.{carrier-one}
 use Rattle.rules.proofs.Audio.{audio-rows, audio-taken, audio-sample}
 use Rattle.rules.proofs.Macroblock.{macroblock-rows, macroblock-carried}
 use Rattle.rules.proofs.Time.{time-rows, time-taken}
-use Rattle.rules.proofs.Answering.{audio-number, time-number}
-use Rattle.rules.proofs.Written.{frame-length, frame-block, frame-high, frame-low, stored-given}
+use Rattle.rules.proofs.Written.{frame-length, given-in, stored-given}
 use Rattle.rules.proofs.Back.{rows-written, check-written, count-written, audio-written, sample-written, picture-written, slot-written, group-written, clock-written, settled-written}
-use Rattle.rules.proofs.Write.{taken-takes, write-taken}
-
--- ---- isAudio: 1 to 8
-
-pub audio-above : (c : ℕ) → isAudio c ≡ true → 0 < c
-audio-above c e = ltb-true 0 c (both-held (ltb 0 c) (ltb c 9) e .0)
-
-pub audio-below : (c : ℕ) → isAudio c ≡ true → c < 9
-audio-below c e = ltb-true c 9 (both-held (ltb 0 c) (ltb c 9) e .1)
-
--- ---- any frame
-
-pub read-out : {k : ℕ} {y : System} {f : List ℕ} {c : ℕ} {samples : List ℤ} {b : ℕ} {o : Strict} → systemOf k ≡ Known y → StrictlyRead k f c samples b o → ReadOut y f c b o
-unfolding timeFound
-read-out {k} {y} {f} {c} {samples} {b} {o} known read =
-    let zero : o .audio .number ≡ 0 → audioNumber k f c (length samples) ≡ 0 = λ z. sym (audio-number k f c samples (read .audio)) ∙ z in
-    record {
-      count = λ z. ap (λ (a : AudioAnswer). a .count) (audio-taken k f c samples y known (zero z) (read .audio) .0);
-      sample = λ z. audio-sample k f c samples y known (zero z) (read .audio);
-      macroblock = λ z s e. read .part .answer ∙ macroblock-carried k f b y known (sym (read .number .answer) ∙ z) s e;
-      time = λ z. time-taken k f y known (sym (time-number k f (read .time)) ∙ z) (read .time);
-    }
 
 -- ---- fourBytes: those that a pack was made of
 
@@ -69,30 +46,23 @@ module _ (y : System) (l : Lent) (size : ℕ) (t : Takes y l size) where
   macroblock-lent : (b : ℕ) → b < macroblocksOf y → 77 * b + 77 ≤ length (l .macroblocks)
   macroblock-lent b h = omega (arith, t .pictures)
 
-  pub laid-out : LaidOut y l (writtenFrame y l)
-  laid-out = record {
-    block = λ h q p hh hq hp. frame-block y l h q p hh hq hp;
-    high = λ c i e hi. frame-high y l c i (audio-above c e) (audio-below c e) hi;
-    low = λ c i e hi. frame-low y l c i (audio-above c e) (audio-below c e) hi;
-    macroblock = λ s b e. slot-written y l s b e (macroblock-lent b (carried-lies y s b e .0));
-  }
-
   module _ (k : ℕ) (known : systemOf k ≡ Known y) where
     -- ---- read_audio
 
-    module _ (c : ℕ) (channel : isAudio c ≡ true) (samples : List ℤ) (room : length samples ≡ positionsOf y) where
+    module _ (c : ℕ) (c1 : 0 < c) (c8 : c < 9) (samples : List ℤ) (room : length samples ≡ positionsOf y) where
       audio-zero-written : audioNumber k (writtenFrame y l) c (length samples) ≡ 0
       audio-zero-written =
-          sym (audio-rows k (writtenFrame y l) c (length samples) y known (eq-eqb _ _ (frame-length y l)) channel (eq-eqb _ _ room) (rows-written y l))
-          ∙ audio-written y l c (audio-above c channel) (audio-below c channel) (t .counts)
+          sym (audio-rows k (writtenFrame y l) c (length samples) y known (eq-eqb _ _ (frame-length y l)) (both-hold (lt-ltb 0 c c1) (lt-ltb c 9 c8)) (eq-eqb _ _ room) (rows-written y l))
+          ∙ audio-written y l c c1 c8 (t .counts)
 
       count-is : countFor y (writtenFrame y l) c ≡ l .count
-      count-is = count-written y l c (audio-above c channel) (audio-below c channel) (t .counts)
+      count-is = count-written y l c c1 c8 (t .counts)
 
-      sample-is : (i : ℕ) → i < l .count → numberOf (readSample y (writtenFrame y l) c i) ≡ backOf (given l c i)
+      sample-is : (i : ℕ) → i < l .count → numberOf (readSample y (writtenFrame y l) c i) ≡ back (given l c i)
       sample-is i h =
-          ap numberOf (sample-written y l c (audio-above c channel) (audio-below c channel) i (omega (arith, h, count-below y (l .count) (t .counts))))
-          ∙ stored-given l c i (audio-above c channel) (audio-below c channel) (t .sounds) (t .levels) h
+          ap numberOf (sample-written y l c c1 c8 i (omega (arith, h, count-below y (l .count) (t .counts))))
+          ∙ stored-given l c i c1 c8 (t .sounds) (t .levels) h
+          ∙ back-is (given l c i) (given-in l c i c1 c8 (t .sounds) (t .levels) h)
 
     -- ---- macroblock
 
@@ -114,11 +84,11 @@ module _ (y : System) (l : Lent) (size : ℕ) (t : Takes y l size) where
 
     -- ---- all
 
-    pub reads-back : (c : ℕ) (samples : List ℤ) (b : ℕ) (o : Strict) → isAudio c ≡ true → length samples ≡ positionsOf y → b < macroblocksOf y
+    pub reads-back : (c : ℕ) (samples : List ℤ) (b : ℕ) (o : Strict) → 0 < c → c < 9 → length samples ≡ positionsOf y → b < macroblocksOf y
         → StrictlyRead k (writtenFrame y l) c samples b o → ReadsBack l c samples b o
-    reads-back c samples b o channel room within read =
-        let zero = audio-zero-written c channel samples room in
-        let count = count-is c channel samples room in
+    reads-back c samples b o c1 c8 room within read =
+        let zero = audio-zero-written c c1 c8 samples room in
+        let count = count-is c c1 c8 samples room in
         let audio = audio-taken k (writtenFrame y l) c samples y known zero (read .audio) in
         let sample : ℕ → ℤ = λ i. numberOf (readSample y (writtenFrame y l) c i) in
         let heard : List ℤ = tab sample (l .count) in
@@ -129,7 +99,7 @@ module _ (y : System) (l : Lent) (size : ℕ) (t : Takes y l size) where
           audio = audio .0 ∙ rw count refl;
           sample = λ i h.
               audio-sample k (writtenFrame y l) c samples y known zero (read .audio) i (omega (arith, h, count, ap (λ (a : AudioAnswer). a .count) (audio .0)))
-              ∙ sample-is c channel samples room i h;
+              ∙ sample-is c c1 c8 samples room i h;
           rest = ap (drop (l .count)) left ∙ drop-at heard (drop (l .count) samples) (l .count) many;
           size = ap length left ∙ length-append heard (drop (l .count) samples) ∙ omega (arith, many, length-drop (l .count) samples, room, count-below y (l .count) (t .counts));
           number = read .number .answer ∙ macroblock-zero-written b within;
@@ -138,24 +108,9 @@ module _ (y : System) (l : Lent) (size : ℕ) (t : Takes y l size) where
               ∙ rw (settled-written y l (t .clock), group-written y l, four-again (l .timeCode) (t .times), four-again (l .binaryGroup) (t .groups)) refl;
         }
 
--- ---- the writer
-
-pub writes-back : {k : ℕ} {y : System} {l : Lent} {frame : List ℕ} {r : ℕ} {f : List ℕ} → systemOf k ≡ Known y → Wrote k l frame r f → WritesBack k y l frame r f
-writes-back {k} {y} {l} {frame} {r} {f} known w =
-    let takes : r ≡ 0 → Takes y l (length frame) = λ z. taken-takes k l (length frame) y known (sym (w .answer) ∙ z) in
-    let is : r ≡ 0 → writtenFrame y l ≡ f = λ z. sym (write-taken k y known l frame (takes z) w .1) in
-    record {
-      takes = λ t. write-taken k y known l frame t w .0;
-      nothing-else = takes;
-      laid-out = λ z. subst (LaidOut y l) (is z) (laid-out y l (length frame) (takes z));
-      reads-back = λ z c samples b o channel room within.
-          subst (λ (x : List ℕ). StrictlyRead k x c samples b o → ReadsBack l c samples b o) (is z)
-          (reads-back y l (length frame) (takes z) k known c samples b o channel room within);
-    }
-
 -- ---- ReadsBack: what meets it is the answer
 
-one-answer : {l : Lent} {c : ℕ} {samples : List ℤ} {b : ℕ} {o o′ : Strict} → ReadsBack l c samples b o → ReadsBack l c samples b o′ → o ≡ o′
+pub one-answer : {l : Lent} {c : ℕ} {samples : List ℤ} {b : ℕ} {o o′ : Strict} → ReadsBack l c samples b o → ReadsBack l c samples b o′ → o ≡ o′
 one-answer {l} {c} {samples} {b} {o} {o′} m m′ =
     let same : o .samples ≡ o′ .samples =
     ext-getD (pos 0) (o .samples) (o′ .samples) (m .size ∙ sym (m′ .size)) (λ i h.
@@ -175,7 +130,3 @@ one-answer {l} {c} {samples} {b} {o} {o′} m m′ =
       part = (m .part ∙ sym (m′ .part)) i;
       time = (m .time ∙ sym (m′ .time)) i;
     }
-
-pub strict-decided : {k : ℕ} {y : System} {l : Lent} {frame f : List ℕ} {c : ℕ} {samples : List ℤ} {b : ℕ} {o o′ : Strict} → systemOf k ≡ Known y → Wrote k l frame 0 f
-    → isAudio c ≡ true → length samples ≡ positionsOf y → b < macroblocksOf y → StrictlyRead k f c samples b o → ReadsBack l c samples b o′ → o′ ≡ o
-strict-decided known w channel room within read m = one-answer m (writes-back known w .reads-back refl _ _ _ _ channel room within read)

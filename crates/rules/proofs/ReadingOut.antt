@@ -1,17 +1,17 @@
 -- The workshop of the second demand: what is read of any ID and any frame, in document 01's numbers and bytes. Assumes nothing.
-use mathlib.Core.Path.{_≡_, refl, sym, ap, ap₂, _∙_, subst}
+use mathlib.Core.Path.{_≡_, refl, sym, ap, ap₂, _∙_}
 use mathlib.Core.List.{List, [], _∷_}
-use Prim.Native.Nat.{ℕ, _+_, _-_, _*_, _<_}
+use Prim.Native.Nat.{ℕ, _+_, _*_, _<_}
 use native.Mathlib.Omega.{arith}
 use borrow.Author.Tests.{eq-eqb}
 use lib.Dec.{eqb, eqb→eq}
 use lib.IntN.{ℤ, pos}
 use lib.ListN.{length, getD, drop, length-append, length-drop}
-use lib.Seq.{ext-getD, getD-drop, drop-at}
+use lib.Seq.{drop-at}
 use Rattle.base.specs.Pick.{pick}
 use Rattle.base.specs.Run.{run, tab}
 use Rattle.base.proofs.Below.{below-at}
-use Rattle.base.proofs.Cases.{by-lt, by-eq}
+use Rattle.base.proofs.Cases.{by-eq}
 use Rattle.base.proofs.Picks.{pick-true}
 use Rattle.base.proofs.Runs.{length-tab, tab-part}
 use Rattle.rules.specs.declared.System.{System}
@@ -37,10 +37,8 @@ use Rattle.rules.specs.Reading.{readSample}
 use Rattle.rules.specs.Audio.{countFor, audioNumber, AudioRead}
 use Rattle.rules.specs.Macroblock.{macroblockNumber, slotBytes, macroblockAt, slotStart, carrierStart, MacroblockRead, MacroblockLies}
 use Rattle.rules.specs.Time.{withBit6, settled, timeFirst, groupFirst, fourBytes, timeNumber, TimeRead}
-use Rattle.rules.specs.Paper.{sequences, positions, macroblocks, start, byteAt, bytesAt, soundWord, heard, slotPlace, carried}
-use Rattle.rules.specs.Written.{Lent}
-use Rattle.rules.specs.Write.{Wrote}
-use Rattle.rules.specs.Demand2.{IdOut, ViewOut, MacroblockOut, Strict, StrictlyRead, ReadOut, ReadsBack, answered}
+use Rattle.rules.specs.Paper.{sequences, start, byteAt, bytesAt, soundWord, heard, slotPlace, carried}
+use Rattle.rules.specs.Demand2.{IdOut, ViewOut, MacroblockOut, Strict, StrictlyRead, ReadOut, answered}
 use Rattle.rules.proofs.Places.{code-one, code-section}
 use Rattle.rules.proofs.Blocks.{block-in-sequence, block-length, part-taken}
 use Rattle.rules.proofs.Systems.{sequences-some}
@@ -53,8 +51,6 @@ use Rattle.rules.proofs.Answering.{says-number, audio-number, time-numb
 use Rattle.rules.proofs.Paper.{columns, by-system, channel-by, byte-in, bytes-at, block-bytes, rest-bytes}
 use Rattle.rules.proofs.Numbers.{sound-heard, carried-is}
 use Rattle.rules.proofs.GroundsAudio.{count-first}
-use Rattle.rules.proofs.Write.{write-1}
-use Rattle.rules.proofs.Form.{writes-back}
 
 -- ---- read_id
 
@@ -226,33 +222,3 @@ read-out {k} {f} {c} {samples} {b} {o} read =
       time = λ z. answer-out (read .time) (time z) .0;
       group = λ z. answer-out (read .time) (time z) .1;
     }
-
--- ---- ReadsBack: what meets it is the answer
-
-one-answer : {l : Lent} {c : ℕ} {samples : List ℤ} {b : ℕ} {o o′ : Strict} → ReadsBack l c samples b o → ReadsBack l c samples b o′ → o ≡ o′
-one-answer {l} {c} {samples} {b} {o} {o′} m m′ =
-    let same : o .samples ≡ o′ .samples =
-    ext-getD (pos 0) (o .samples) (o′ .samples) (m .size ∙ sym (m′ .size)) (λ i h.
-    by-lt i (l .count)
-    (λ below. m .sample i below ∙ sym (m′ .sample i below))
-    (λ above.
-    let e : l .count + (i - l .count) ≡ i = omega arith in
-    subst (λ (j : ℕ). getD (o .samples) j (pos 0) ≡ getD (o′ .samples) j (pos 0)) e
-    (sym (getD-drop (l .count) (o .samples) (i - l .count) (pos 0))
-    ∙ ap (λ (xs : List ℤ). getD xs (i - l .count) (pos 0)) (m .rest ∙ sym (m′ .rest))
-    ∙ getD-drop (l .count) (o′ .samples) (i - l .count) (pos 0)))) in
-    λ i. record {
-      check = (m .check ∙ sym (m′ .check)) i;
-      audio = (m .audio ∙ sym (m′ .audio)) i;
-      samples = same i;
-      number = (m .number ∙ sym (m′ .number)) i;
-      part = (m .part ∙ sym (m′ .part)) i;
-      time = (m .time ∙ sym (m′ .time)) i;
-    }
-
-pub strict-decided : {k : ℕ} {l : Lent} {frame f : List ℕ} {c : ℕ} {samples : List ℤ} {b : ℕ} {o o′ : Strict} → Wrote k l frame 0 f → 0 < c → c < 9
-    → length samples ≡ positions k → b < macroblocks k → StrictlyRead k f c samples b o → ReadsBack l c samples b o′ → o′ ≡ o
-strict-decided {k} {l} {frame} wrote c1 c8 room within read m =
-    by-system k
-    (λ none. absurd (omega (arith, wrote .answer, write-1 k l (length frame) none)))
-    (λ y known. one-answer m (writes-back known wrote .reads-back _ _ _ _ c1 c8 room within read))

@@ -1,19 +1,17 @@
 -- Each call's refusal table, in document 01's numbers and bytes, gives exactly the number that the call's contract has. Assumes nothing.
 use mathlib.Core.Path.{_≡_, refl, sym, ap, _∙_, subst}
-use mathlib.Core.Bool.{Bool, true, false, not, _&&_, _||_}
+use mathlib.Core.Bool.{true, false, not, _||_}
 use mathlib.Core.List.{List, [], _∷_, _++_, append-nil}
 use mathlib.Core.Logic.{_⊎_, inl, inr, ⊎-elim, _≢_}
 use Prim.Native.Nat.{ℕ, _+_, _*_, _/_, _≤_, _<_}
-use native.Mathlib.Nat.{add-zero}
 use native.Mathlib.Omega.{arith}
 use lib.Dec.{eqb, ltb, leb}
 use lib.ListN.{length, getD}
-use borrow.Author.Tests.{eqb-true, eqb-false, ne-eqb, eq-eqb, leb-true, leb-false, le-leb, ltb-true, ltb-false, lt-ltb, not-true, not-false}
+use borrow.Author.Tests.{eqb-true, eq-eqb, leb-true, leb-false, ltb-true, ltb-false, lt-ltb, not-true, not-false}
 use Rattle.base.specs.Calls.{Refusal, firstOf, _when_}
 use Rattle.base.proofs.Cases.{by-bool, by-eq, by-lt}
 use Rattle.base.proofs.Picks.{neither, both-held, both-hold}
 use Rattle.rules.specs.declared.System.{System}
-use Rattle.rules.specs.declared.SystemNumber.{SystemNumber}
 use Rattle.rules.specs.declared.SystemNumber.the-variants.{Known}
 use Rattle.rules.specs.declared.Place.{Place}
 use Rattle.rules.specs.Systems.{sequencesOf, positionsOf, macroblocksOf, isCount, systemOf, positionsIn, passes, rowsIn, frameBytes}
@@ -31,8 +29,8 @@ use Rattle.rules.specs.Salvage.{salvageNumber}
 use Rattle.rules.specs.Written.{Lent}
 use Rattle.rules.specs.Write.{lengthsOk, countOk, clockTaken, writeNumber}
 use Rattle.rules.specs.Paper.{sequences, positions, macroblocks, byteAt, fault}
-use Rattle.rules.specs.Refusals.{Table, _if_, _else_, none, FirstFault, OwnFault, Some, WrongDsf, WrongVs, Flagged, OwnCount, WrongLengths, idTable, surveyTable, salvageTable, sequenceTable, viewTable, checked, checkTable, audioTable, macroblockTable, timeTable, writeTable}
-use Rattle.rules.proofs.Paper.{Columns, columns, fault-is, byte-at}
+use Rattle.rules.specs.Refusals.{Table, _if_, _else_, none, FirstFault, OwnFault, Some, WrongDsf, WrongVs, Flagged, WrongLengths, idTable, surveyTable, salvageTable, sequenceTable, viewTable, checked, checkTable, audioTable, macroblockTable, timeTable, writeTable}
+use Rattle.rules.proofs.Paper.{columns, fault-is, byte-at}
 use Rattle.rules.proofs.Blocks.{block-length}
 use Rattle.rules.proofs.Calls.{inside-means}
 use Rattle.rules.proofs.Tables.{Exactly, exactly-none, row-exactly, row-differs, row-fault, row-system}

@@ -108,9 +108,6 @@ counts-below I50 = omega arith
 counts-below P60 = omega arith
 counts-below P50 = omega arith
 
-pub positions-some : (y : System) → 0 < positionsOf y
-positions-some y = omega (arith, counts-below y .0)
-
 -- one of a system's own counts is its fewer or its more
 pub count-cases : (y : System) (k : ℕ) → isCount y k ≡ true → (k ≡ countsOf y .fewer) ⊎ (k ≡ countsOf y .more)
 count-cases y k e =

@@ -2,8 +2,8 @@
 use mathlib.Core.Path.{_≡_, refl, sym, subst, _∙_}
 use mathlib.Core.Bool.{Bool, true, false, not}
 use mathlib.Core.List.{List, [], _∷_}
-use mathlib.Core.Logic.{_⊎_, inl, inr, ⊎-elim, _≢_}
-use Prim.Native.Nat.{ℕ, _*_, _<_}
+use mathlib.Core.Logic.{inl, inr, ⊎-elim, _≢_}
+use Prim.Native.Nat.{ℕ, _<_}
 use native.Mathlib.Omega.{arith}
 use lib.Dec.{eqb}
 use borrow.Author.Tests.{eq-eqb, ne-eqb, eqb-true, eqb-false, not-true, not-false}
@@ -13,7 +13,7 @@ use Rattle.base.proofs.Picks.{first-here, first-next}
 use Rattle.rules.specs.declared.System.{System}
 use Rattle.rules.specs.declared.SystemNumber.{SystemNumber}
 use Rattle.rules.specs.declared.SystemNumber.the-variants.{Known, NoSystem}
-use Rattle.rules.specs.Systems.{sequencesOf, systemOf, isNoSystem}
+use Rattle.rules.specs.Systems.{systemOf, isNoSystem}
 use Rattle.rules.specs.Refusals.{Table, _if_, _else_, none}
 use Rattle.rules.proofs.Paper.{known-below, none-above}
 

@@ -5,18 +5,18 @@ use mathlib.Core.List.{List, [], _∷_}
 use Prim.Native.Nat.{ℕ, _+_, _-_, _*_, _/_, _%_, _≤_, _<_}
 use native.Mathlib.Nat.{mod-eq-of-lt, div-eq-of-lt, mul-add-div}
 use native.Mathlib.Omega.{arith}
-use lib.Dec.{eqb, ltb}
+use lib.Dec.{eqb}
 use lib.ListN.{replicate}
 use borrow.Author.Tests.{lt-ltb, le-ltb}
 use Rattle.base.specs.Pick.{pick}
-use Rattle.base.proofs.Below.{below-at}
 use Rattle.base.proofs.Cases.{by-lt}
 use Rattle.base.proofs.Picks.{pick-true, pick-false}
 use Rattle.rules.specs.declared.System.{System}
+use Rattle.rules.specs.declared.SystemNumber.the-variants.{Known}
 use Rattle.rules.specs.declared.Pack.{Pack}
 use Rattle.rules.specs.declared.SubcodePack.{SubcodePack}
 use Rattle.rules.specs.declared.SubcodePack.the-variants.{TimeCode, BinaryGroup, NoPack}
-use Rattle.rules.specs.Systems.{sequencesOf, halfOf, rateOf, stypeOf}
+use Rattle.rules.specs.Systems.{sequencesOf, halfOf, rateOf, stypeOf, systemOf}
 use Rattle.rules.specs.Places.{codeOf, place, entryAt}
 use Rattle.rules.specs.Ids.{idBytes, idOf, fscOf, fspOf}
 use Rattle.rules.specs.Packs.{packBytes, noPack}
@@ -27,13 +27,14 @@ use Rattle.rules.specs.Vaux.{vsAt, vscPack, vauxPack}
 use Rattle.rules.specs.Aaux
 use Rattle.rules.specs.Aaux.{asAt, sizeOf, ascPack, modeOf, aauxPack}
 use Rattle.rules.specs.Sound.{audioAt}
-use Rattle.rules.specs.Paper.{sequences, rate, stype, byteAt, sectionAt, numberAt, channelBits, asPack, vsPack, isOneOf, holdsTime, holdsGroup}
+use Rattle.rules.specs.Paper.{sequences, rate, stype, byteAt, sectionAt, numberAt, channelBits, asPack, vsPack}
 use Rattle.rules.specs.Form.{cut, halfIn, idForm, headerForm, subcodeForm, ssybForm, vauxForm, aauxForm}
 use Rattle.rules.proofs.Systems.{half-cases, half-twice}
 use Rattle.rules.proofs.Places.{number-below}
 use Rattle.rules.proofs.Sound.{half-some}
-use Rattle.rules.proofs.Subcode.{isTime, isGroup, agree, agree-same}
-use Rattle.rules.proofs.Paper.{Columns, figure-section, figure-number, bits-channel}
+use Rattle.rules.proofs.Subcode.{isTime, isGroup}
+use Rattle.rules.proofs.Paper.{Columns, columns, figure-section, figure-number, bits-channel}
+use Rattle.rules.proofs.GroundsTime.{half-first, holds-time, holds-group}
 
 -- ---- idBytes
 
@@ -65,18 +66,6 @@ pack-form TimeCode time group = refl
 pack-form BinaryGroup time group = refl
 pack-form NoPack time group = refl
 
--- ---- kindOf: "First half: time code in 3, 5, 9, 11, binary group in 4, 10. Second half: time code in 3, 9."
-
-kind-time : (first : Bool) (j : ℕ) → j < 12 → pick first (isOneOf (3 ∷ 5 ∷ 9 ∷ 11 ∷ []) j) (isOneOf (3 ∷ 9 ∷ []) j) ≡ isTime (kindOf first j)
-unfolding pick kindOf agree
-kind-time true j h = agree-same _ _ (below-at (λ i. agree (isOneOf (3 ∷ 5 ∷ 9 ∷ 11 ∷ []) i) (isTime (kindOf true i))) 12 tt j h)
-kind-time false j h = agree-same _ _ (below-at (λ i. agree (isOneOf (3 ∷ 9 ∷ []) i) (isTime (kindOf false i))) 12 tt j h)
-
-kind-group : (first : Bool) (j : ℕ) → j < 12 → pick first (isOneOf (4 ∷ 10 ∷ []) j) false ≡ isGroup (kindOf first j)
-unfolding pick kindOf agree
-kind-group true j h = agree-same _ _ (below-at (λ i. agree (isOneOf (4 ∷ 10 ∷ []) i) (isGroup (kindOf true i))) 12 tt j h)
-kind-group false j h = agree-same _ _ (below-at (λ i. agree false (isGroup (kindOf false i))) 12 tt j h)
-
 -- ---- by the system
 
 fr-form : (first : Bool) → 0xFF - 0x80 * pick first 0 1 ≡ frByte first
@@ -90,7 +79,10 @@ second-half s q some g l =
     let rest : q - s < s = omega arith in
     ap (λ (x : ℕ). x / s) e ∙ mul-add-div some 1 (q - s) ∙ omega (arith, div-eq-of-lt rest)
 
-module _ (k : ℕ) (y : System) (is : Columns k y) where
+module _ (k : ℕ) (y : System) (known : systemOf k ≡ Known y) where
+  abbrev is : Columns k y
+  is = columns k y known
+
   pub header-form : headerForm k ≡ headerBytes y
   unfolding headerForm headerBytes
   header-form =
@@ -110,29 +102,16 @@ module _ (k : ℕ) (y : System) (is : Columns k y) where
 
   -- ---- subcode
 
-  -- "the first n/2 sequences"
-  first-form : (q : ℕ) → ltb q (sequences k / 2) ≡ isFirst y q
-  unfolding halfOf
-  first-form q = ap (λ (n : ℕ). ltb q (n / 2)) (is .sequences-is)
-
-  pub time-form : (q j : ℕ) → j < 12 → holdsTime (sequences k) q j ≡ isTime (kindOf (isFirst y q) j)
-  unfolding holdsTime
-  time-form q j h = ap (λ (first : Bool). pick first (isOneOf (3 ∷ 5 ∷ 9 ∷ 11 ∷ []) j) (isOneOf (3 ∷ 9 ∷ []) j)) (first-form q) ∙ kind-time (isFirst y q) j h
-
-  pub group-form : (q j : ℕ) → j < 12 → holdsGroup (sequences k) q j ≡ isGroup (kindOf (isFirst y q) j)
-  unfolding holdsGroup
-  group-form q j h = ap (λ (first : Bool). pick first (isOneOf (4 ∷ 10 ∷ []) j) false) (first-form q) ∙ kind-group (isFirst y q) j h
-
   -- by the packs of DIF channel 0, sequence 0
   module _ (f : List ℕ) (time group : Pack) (et : 0x13 ∷ cut k f 0 0 1 31 4 ≡ packBytes time) (eg : 0x14 ∷ cut k f 0 0 1 39 4 ≡ packBytes group) (q j : ℕ) (hj : j < 12) where
     subcode-form : subcodeForm k f q j ≡ packBytes (subcodePack (kindOf (isFirst y q) j) time group)
     unfolding subcodeForm
-    subcode-form = rw (et, eg, time-form q j hj, group-form q j hj) (pack-form (kindOf (isFirst y q) j) time group)
+    subcode-form = rw (et, eg, holds-time k y known q j hj, holds-group k y known q j hj) (pack-form (kindOf (isFirst y q) j) time group)
 
     pub ssyb-form : ssybForm k f q j ≡ ssyb (isFirst y q) time group j
     unfolding ssybForm ssyb
     ssyb-form =
-        let a : 0xFF - 0x80 * halfIn k q ≡ frByte (isFirst y q) = ap (λ (first : Bool). 0xFF - 0x80 * pick first 0 1) (first-form q) ∙ fr-form (isFirst y q) in
+        let a : 0xFF - 0x80 * halfIn k q ≡ frByte (isFirst y q) = ap (λ (first : Bool). 0xFF - 0x80 * pick first 0 1) (half-first k y known q) ∙ fr-form (isFirst y q) in
         λ i. a i ∷ (0xF0 + j) ∷ 0xFF ∷ subcode-form i
 
   -- ---- AAUX
@@ -141,9 +120,9 @@ module _ (k : ℕ) (y : System) (is : Columns k y) where
   mode-form : (h q : ℕ) → q < sequencesOf y → halfIn k q ≡ modeOf (audioAt (halfOf y) h q)
   mode-form h q hq =
       by-lt q (halfOf y)
-      (λ l. pick-true 0 1 (first-form q ∙ lt-ltb q (halfOf y) l) ∙ omega (arith, div-eq-of-lt l))
+      (λ l. pick-true 0 1 (half-first k y known q ∙ lt-ltb q (halfOf y) l) ∙ omega (arith, div-eq-of-lt l))
       (λ g.
-      pick-false 0 1 (first-form q ∙ le-ltb q (halfOf y) g)
+      pick-false 0 1 (half-first k y known q ∙ le-ltb q (halfOf y) g)
       ∙ omega (arith, second-half (halfOf y) q (half-some (halfOf y) (half-cases y)) g (omega (arith, half-twice y))))
 
   -- by the AF size of DIF channel 0, sequence 0

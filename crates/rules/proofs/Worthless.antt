@@ -2,30 +2,40 @@
 use mathlib.Core.Path.{_≡_, refl, sym, ap, _∙_, subst}
 use mathlib.Core.Bool.{true}
 use mathlib.Core.List.{List, [], _∷_}
-use Prim.Native.Nat.{ℕ, _+_, _-_, _*_, _<_}
+use Prim.Native.Nat.{ℕ, zero, suc, _+_, _-_, _*_, _/_, _%_, _<_}
+use native.Mathlib.Nat.{not-suc-le-zero}
 use native.Mathlib.Omega.{arith}
-use borrow.Author.Tests.{lt-ltb}
+use borrow.Author.Tests.{lt-ltb, ne-eqb}
+use lib.Dec.{eqb}
 use lib.IntN.{ℤ, pos}
-use lib.ListN.{length, replicate, length-replicate, getD-replicate}
-use Rattle.base.proofs.Picks.{pick-true}
+use lib.ListN.{length, length-append, replicate, length-replicate, getD-replicate}
+use Rattle.base.specs.Pick.{pick}
+use Rattle.base.specs.Run.{run}
+use Rattle.base.proofs.Cases.{by-eq}
+use Rattle.base.proofs.Picks.{pick-true, pick-false}
 use Rattle.base.proofs.Runs.{end-within}
 use Rattle.rules.specs.declared.System.{System}
 use Rattle.rules.specs.declared.System.the-variants.{I60, I50, P60, P50}
-use Rattle.rules.specs.declared.SystemNumber.the-variants.{Known}
-use Rattle.rules.specs.Systems.{sequencesOf, halfOf, positionsOf, isCount, macroblocksOf, systemOf}
+use Rattle.rules.specs.declared.Survey.{Survey}
+use Rattle.rules.specs.Systems.{halfOf}
 use Rattle.rules.specs.TimeCode.{timePack, timeTaken}
-use Rattle.rules.specs.Samples.{lost, inRange, backOf}
-use Rattle.rules.specs.Audio.{isAudio}
+use Rattle.rules.specs.Samples.{inRange}
 use Rattle.rules.specs.Write.{Wrote, Takes}
-use Rattle.rules.specs.Statements.{Strict, StrictlyRead, given, ReadsBack, SampleSalvaged, tone}
+use Rattle.rules.specs.Paper.{sequences, positions, macroblocks, faultOf, records, back}
+use Rattle.rules.specs.Refusals.{OwnCount}
+use Rattle.rules.specs.Demand2.{Strict, StrictlyRead, given, ReadsBack, tone}
+use Rattle.rules.specs.Demand3.{SampleSalvaged, Listed}
 use Rattle.rules.proofs.Systems.{half-cases, count-turns, macroblocks-some}
-use Rattle.rules.proofs.Samples.{back-other, all-pass}
+use Rattle.rules.proofs.Samples.{all-pass}
 use Rattle.rules.proofs.Sound.{half-some}
 use Rattle.rules.proofs.Check.{check-frame-one}
 use Rattle.rules.proofs.Audio.{read-audio-one}
 use Rattle.rules.proofs.Macroblock.{macroblock-number-one, macroblock-one}
 use Rattle.rules.proofs.Time.{read-time-one}
-use Rattle.rules.proofs.ReadingBack.{audio-above, audio-below, writes-back}
+use Rattle.rules.proofs.Write.{write-taken}
+use Rattle.rules.proofs.Paper.{columns, known-system}
+use Rattle.rules.proofs.GroundsAudio.{own-when}
+use Rattle.rules.proofs.WritingBack.{writes-back}
 
 -- ---- tone: the writer takes it
 
@@ -36,20 +46,65 @@ tone-clock I50 = refl
 tone-clock P60 = refl
 tone-clock P50 = refl
 
-module _ (y : System) (count : ℕ) (own : isCount y count ≡ true) where
-  pub tone-taken : Takes y (tone y count 5) (48000 * sequencesOf y)
+module _ (k : ℕ) (below : k < 4) (count : ℕ) (own : OwnCount k count) where
+  pub tone-taken : {frame f : List ℕ} {r : ℕ} → length frame ≡ 48000 * sequences k → Wrote k (tone k count 5) frame r f → r ≡ 0
   unfolding inRange
-  tone-taken = record {
-    frame = refl;
-    counts = own;
-    sounds = length-replicate (8 * count) (pos 5);
-    pictures = length-replicate (77 * macroblocksOf y) 0;
-    times = refl;
-    groups = refl;
-    levels = all-pass (replicate (8 * count) (pos 5)) (λ i h.
-        ap inRange (getD-replicate (8 * count) i (pos 5) (pos 0) (subst (λ (n : ℕ). i < n) (length-replicate (8 * count) (pos 5)) h)));
-    clock = tone-clock y;
-  }
+  tone-taken {frame} whole wrote =
+      known-system k below (λ y known.
+      let col = columns k y known in
+      let takes : Takes y (tone k count 5) (length frame) = record {
+        frame = whole ∙ rw (col .sequences-is) refl;
+        counts = own-when k y known count own;
+        sounds = length-replicate (8 * count) (pos 5);
+        pictures = length-replicate (77 * macroblocks k) 0 ∙ rw (col .macroblocks-is) refl;
+        times = refl;
+        groups = refl;
+        levels = all-pass (replicate (8 * count) (pos 5)) (λ i h.
+            ap inRange (getD-replicate (8 * count) i (pos 5) (pos 0) (subst (λ (n : ℕ). i < n) (length-replicate (8 * count) (pos 5)) h)));
+        clock = tone-clock y;
+      } in
+      write-taken k y known (tone k count 5) frame takes wrote .0)
+
+  count-some : 0 < count
+  count-some = known-system k below (λ y known. omega (arith, count-turns y count (own-when k y known count own), half-some (halfOf y) (half-cases y)))
+
+-- ---- tone: its level is what is given, and comes back
+
+module _ (k count c t : ℕ) (c1 : 0 < c) (c8 : c < 9) (below : t < count) where
+  tone-given : (level : ℕ) → back (given (tone k count level) c t) ≡ pos level
+  unfolding back
+  tone-given level =
+      let lower : c - 1 < 8 = omega arith in
+      ap back (getD-replicate (8 * count) ((c - 1) * count + t) (pos level) (pos 0) (omega (arith, below, end-within count (c - 1) 8 lower)))
+
+  -- the third demand stops a salvage that calls all lost
+  pub all-lost : {n : ℕ} {f : List ℕ} → SampleSalvaged n (tone k count 5) f f c t (pos 32768) → ⊥
+  all-lost s =
+      let e : pos 32768 ≡ pos 5 = s .untouched refl ∙ pick-true _ _ (lt-ltb t count below) ∙ tone-given 5 in
+      let q : _≡_ {A = ℕ} 32768 5 = cc in
+      omega arith
+
+-- ---- records: none only where every block names its place
+
+records-none : (n : ℕ) (bytes : List ℕ) (first m j : ℕ) → length (records n bytes first m) ≡ 0 → j < m → faultOf n bytes j (first + j) ≡ 0
+unfolding records run
+records-none n bytes first zero j e h = absurd (not-suc-le-zero h)
+records-none n bytes first (suc m) j e h =
+    let found = faultOf n bytes m (first + m) in
+    let i = first + m in
+    let both = length-append (records n bytes first m) (pick (eqb found 0) [] (i / 150 / n ∷ i / 150 % n ∷ i % 150 ∷ found ∷ [])) in
+    by-eq j m
+    (λ last.
+    rw last
+    (by-eq found 0 (λ z. z) (λ d.
+    let some : length (pick (eqb found 0) [] (i / 150 / n ∷ i / 150 % n ∷ i % 150 ∷ found ∷ [])) ≡ 4 = ap length (pick-false _ _ (ne-eqb found 0 d)) in
+    absurd (omega (arith, e, both, some)))))
+    (λ d. records-none n bytes first m j (omega (arith, e, both)) (omega (arith, d)))
+
+-- the third demand stops a survey that coasts, of a frame and of one sequence
+pub coasting : {n first m : ℕ} {bytes list list′ : List ℕ} {r : Survey} → Listed n bytes first m list r list′ → r .total ≡ 0
+    → (j : ℕ) → j < m → faultOf n bytes j (first + j) ≡ 0
+coasting {n} {first} {m} {bytes} s z j h = records-none n bytes first m j (omega (arith, z, s .total)) h
 
 -- ---- the strict reads answer of every frame
 
@@ -73,39 +128,24 @@ strictly k f c samples b = record {
   time = read-time-one k f .meets;
 }
 
--- ---- tone: its level is what is given, and comes back
-
-module _ (y : System) (count c t : ℕ) (channel : isAudio c ≡ true) (below : t < count) where
-  tone-given : (level : ℕ) → backOf (given (tone y count level) c t) ≡ pos level
-  tone-given level =
-      let lower : c - 1 < 8 = omega (arith, audio-above c channel, audio-below c channel) in
-      ap backOf (getD-replicate (8 * count) ((c - 1) * count + t) (pos level) (pos 0) (omega (arith, below, end-within count (c - 1) 8 lower))) ∙ back-other level .0
-
-  -- the third demand stops a salvage that calls all lost
-  pub all-lost : {f : List ℕ} → SampleSalvaged y (tone y count 5) f f c t lost → ⊥
-  all-lost s =
-      let e : lost ≡ pos 5 = s .untouched refl ∙ pick-true _ _ (lt-ltb t count below) ∙ tone-given 5 in
-      let q : _≡_ {A = ℕ} 32768 5 = cc in
-      omega arith
-
-module _ (y : System) (count : ℕ) (own : isCount y count ≡ true) where
-  count-some : 0 < count
-  count-some = omega (arith, count-turns y count own, half-some (halfOf y) (half-cases y))
-
+module _ (k : ℕ) (below : k < 4) (count : ℕ) (own : OwnCount k count) where
   -- the second demand stops one answer for two inputs
-  pub one-for-two : (c : ℕ) {samples : List ℤ} {b : ℕ} {o : Strict} → isAudio c ≡ true → ReadsBack (tone y count 5) c samples b o → ReadsBack (tone y count 6) c samples b o → ⊥
-  one-for-two c channel a a′ =
-      let e : pos 5 ≡ pos 6 =
-      sym (a .sample 0 count-some ∙ tone-given y count c 0 channel count-some 5) ∙ (a′ .sample 0 count-some ∙ tone-given y count c 0 channel count-some 6) in
+  pub one-for-two : (c : ℕ) {samples : List ℤ} {b : ℕ} {o : Strict} → 0 < c → c < 9 → ReadsBack (tone k count 5) c samples b o
+      → ReadsBack (tone k count 6) c samples b o → ⊥
+  one-for-two c c1 c8 a a′ =
+      let some = count-some k below count own in
+      let e : pos 5 ≡ pos 6 = sym (a .sample 0 some ∙ tone-given k count c 0 c1 c8 some 5) ∙ (a′ .sample 0 some ∙ tone-given k count c 0 c1 c8 some 6) in
       let q : _≡_ {A = ℕ} 5 6 = cc in
       omega arith
 
   -- and so one frame for two inputs
-  pub frame-for-two : {k : ℕ} {frame frame′ f : List ℕ} → systemOf k ≡ Known y → Wrote k (tone y count 5) frame 0 f → Wrote k (tone y count 6) frame′ 0 f → ⊥
-  frame-for-two {k} {frame} {frame′} {f} known w w′ =
-      let samples : List ℤ = replicate (positionsOf y) (pos 0) in
-      let room : length samples ≡ positionsOf y = length-replicate (positionsOf y) (pos 0) in
-      let first : 0 < macroblocksOf y = macroblocks-some y in
-      one-for-two 1 refl
-      (writes-back known w .reads-back refl 1 samples 0 (strict k f 1 samples 0) refl room first (strictly k f 1 samples 0))
-      (writes-back known w′ .reads-back refl 1 samples 0 (strict k f 1 samples 0) refl room first (strictly k f 1 samples 0))
+  pub frame-for-two : {frame frame′ f : List ℕ} → Wrote k (tone k count 5) frame 0 f → Wrote k (tone k count 6) frame′ 0 f → ⊥
+  frame-for-two {frame} {frame′} {f} w w′ =
+      known-system k below (λ y known.
+      let samples : List ℤ = replicate (positions k) (pos 0) in
+      let room : length samples ≡ positions k = length-replicate (positions k) (pos 0) in
+      let first : 0 < macroblocks k = omega (arith, macroblocks-some y, columns k y known .macroblocks-is) in
+      let read = strictly k f 1 samples 0 in
+      one-for-two 1 (omega arith) (omega arith)
+      (writes-back w .reads-back 1 samples 0 (strict k f 1 samples 0) (omega arith) (omega arith) room first read)
+      (writes-back w′ .reads-back 1 samples 0 (strict k f 1 samples 0) (omega arith) (omega arith) room first read))

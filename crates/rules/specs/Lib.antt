@@ -38,4 +38,3 @@ pub mod Demand1
 pub mod Demand2
 pub mod Demand3
 pub mod Numbers
-pub mod Statements
