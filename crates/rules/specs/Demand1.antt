@@ -24,7 +24,8 @@ use Rattle.rules.specs.Time.{TimeRead}
 use Rattle.rules.specs.Salvage.{Salvaged}
 use Rattle.rules.specs.Written.{Lent}
 use Rattle.rules.specs.Write.{Wrote}
-use Rattle.rules.specs.Refusals.{Table, idTable, surveyTable, salvageTable, sequenceTable, viewTable, checkTable, audioTable, macroblockTable, timeTable, writeTable}
+use Rattle.rules.specs.Refusals.{Table, idTable, surveyTable, salvageTable, sequenceTable, viewTable, checkTable, audioTable, macroblockTable, timeTable}
+use Rattle.rules.specs.Refusals.{writeTable}
 
 -- a call on one input: an outcome is its answer with the buffers as it left them, and meets its contract; it answers a number; the table is
 -- document 01's for this call and input; Quiet is what a refusal has to be

@@ -22,7 +22,8 @@ use Rattle.rules.specs.Audio.{AudioRead}
 use Rattle.rules.specs.Macroblock.{MacroblockNumbered, MacroblockRead}
 use Rattle.rules.specs.Time.{TimeRead}
 use Rattle.rules.specs.Written.{Lent}
-use Rattle.rules.specs.Paper.{sequences, positions, macroblocks, rate, start, byteAt, bytesAt, channelBy, soundChannel, soundFirst, soundStart, soundWord, heard, wordOf, back, countSaid, slotPlace, carried}
+use Rattle.rules.specs.Paper.{sequences, positions, macroblocks, rate, start, byteAt, bytesAt, channelBy, soundChannel, soundFirst, soundStart, soundWord}
+use Rattle.rules.specs.Paper.{heard, wordOf, back, countSaid, slotPlace, carried}
 use Rattle.rules.specs.Form.{HasForm}
 
 -- ---- "Frames are read .. as Recommendation ITU-R BT.1620-1 lays down and document 01 sets out, for all four systems": any input, where a read answers 0

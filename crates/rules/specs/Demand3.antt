@@ -1,6 +1,6 @@
 -- The customer's third demand, clause by clause under his own words: "Take a frame our writer made", f, of what was lent to it, l, "and overwrite
--- any set of its 80-byte blocks with anything": g is any frame of its length. k is a system's number, n its sequences; c is an audio channel, 1 to 8,
--- and t a position of it.
+-- any set of its 80-byte blocks with anything": g is any frame of its length. k is a system's number, n its sequences; c is an audio channel,
+-- 1 to 8, and t a position of it.
 use mathlib.Core.Path.{_≡_}
 use mathlib.Core.List.{List, _++_}
 use mathlib.Core.Logic.{_≢_}
