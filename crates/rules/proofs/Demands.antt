@@ -21,7 +21,7 @@ use Rattle.rules.specs.Written.{Lent}
 use Rattle.rules.specs.Write.{Wrote}
 use Rattle.rules.specs.Rows.{rowsAgree, printedRows}
 use Rattle.rules.specs.Known.{all, table}
-use Rattle.rules.specs.Paper.{sequences, positions, macroblocks}
+use Rattle.rules.specs.Paper.{sequences, positions, macroblocks, faultOf}
 use Rattle.rules.specs.Refusals.{OwnCount}
 use Rattle.rules.specs.Numbers.{InNumbers}
 use Rattle.rules.specs.Demand1.{EveryCall}
@@ -35,7 +35,7 @@ use Rattle.rules.proofs.ReadingOut.{id-out, view-out, macroblock-out, r
 use Rattle.rules.proofs.WritingBack.{writes-back, strict-decided, frame-decided}
 use Rattle.rules.proofs.Listing.{survey-listed, sequence-listed}
 use Rattle.rules.proofs.Salvaging.{salvages, salvage-decided}
-use Rattle.rules.proofs.Worthless.{tone-taken, one-for-two, frame-for-two, all-lost}
+use Rattle.rules.proofs.Worthless.{coasting, tone-taken, one-for-two, frame-for-two, all-lost}
 
 -- ---- the rules: the known places of document 01, the printed rows of tables 22 to 24, and the definitions in document 01's numbers
 
@@ -101,6 +101,11 @@ demand-3-surveys = survey-listed
 pub demand-3-sequences : (k h q : ℕ) {sequence list list′ : List ℕ} {r : Survey} → SequenceSurveyed k h q sequence list r list′ → r .number ≡ 0
     → Listed (sequences k) sequence ((sequences k * h + q) * 150) 150 list r list′
 demand-3-sequences = sequence-listed
+
+-- a survey that counts none has seen every block name its place
+pub not-coasting : {n first m : ℕ} {bytes list list′ : List ℕ} {r : Survey} → Listed n bytes first m list r list′ → r .total ≡ 0 → (j : ℕ) → j < m
+    → faultOf n bytes j (first + j) ≡ 0
+not-coasting = coasting
 
 -- ---- the premises can be met, for each system and count; and what the demands refute
 
