@@ -1,5 +1,6 @@
--- In the paper's order: the format, then a file a call, then the known places and the demands. `Judging` and `Noting`
--- are no rules of the paper: they serve the loops, and a reader of the promises can leave them out.
+-- The promises are `Demand1`, `Demand2` and `Demand3`, in the words of `Paper`, `Refusals` and `Form`; those use no other file but for the contract records
+-- of the calls. Before them, in the paper's order, the definitions that the library is built on: the format, then a file a call, then the known places.
+-- `Judging` and `Noting` are no rules of the paper: they serve the loops, and a reader of the promises can leave them out.
 pub mod Systems
 pub mod Places
 pub mod Ids
