@@ -1,0 +1,37 @@
+-- What is printed of a survey (document 01: the survey program).
+use mathlib.Core.Path.{_≡_}
+use mathlib.Core.List.{List, [], _∷_, _++_}
+use Prim.Native.Nat.{ℕ, _+_, _*_}
+use lib.Dec.{eqb, ltb, leb}
+use lib.ListN.{length, take, drop}
+use Rattle.base.specs.Pick.{pick}
+use Rattle.rules.specs.declared.Survey.{Survey}
+use Rattle.text.specs.Lines.{lineOf}
+
+-- "It prints `F`, channel, sequence, place, fault, parted by tabs": record i of the list, where it holds that
+unfoldable pub recordLine : List ℕ → ℕ → List ℕ
+recordLine list i = pick (ltb (length list) (4 * i + 4)) [] (lineOf 0x46 (take 4 (drop (4 * i) list)))
+
+-- "then `T`, total, kept"
+unfoldable pub totalsLine : ℕ → ℕ → List ℕ
+totalsLine total kept = lineOf 0x54 (total ∷ kept ∷ [])
+
+-- "`E`, tab, `2` only"
+unfoldable pub refusalLine : ℕ → List ℕ
+refusalLine number = lineOf 0x45 (number ∷ [])
+
+-- line i of what is printed
+unfoldable pub lineAt : Survey → List ℕ → ℕ → List ℕ
+lineAt s list i =
+    pick (eqb (s .number) 0)
+    (pick (ltb i (s .kept)) (recordLine list i) (pick (eqb i (s .kept)) (totalsLine (s .total) (s .kept)) []))
+    (pick (eqb i 0) (refusalLine (s .number)) [])
+
+-- a line in a buffer of so many bytes: none where there are less than 64
+unfoldable pub inRoom : ℕ → List ℕ → List ℕ
+inRoom size text = pick (leb 64 size) text []
+
+-- the line stands at the start of out, and behind it all is as it was
+pub record Printed (text out out′ : List ℕ) (r : ℕ) : Type 0 where
+  pub left : out′ ≡ inRoom (length out) text ++ drop (length (inRoom (length out) text)) out
+  pub count : r ≡ length (inRoom (length out) text)
