@@ -57,29 +57,47 @@ pub refusal-printed : (number : ℕ) (out out′ : List ℕ) (r : ℕ) → Lined
 unfolding refusalLine
 refusal-printed number out out′ r p = printed 0x45 (number ∷ []) _ out out′ r (omega arith) refl p
 
-module _ (s : Survey) (list : List ℕ) (i : ℕ) (out out′ : List ℕ) (r : ℕ) where
-  so : (text : List ℕ) → lineAt s list i ≡ text → Printed text out out′ r → Printed (lineAt s list i) out out′ r
-  so text e p = rw e p
+-- ---- line i
+
+module _ (s : Survey) (list : List ℕ) (i : ℕ) where
+  module _ (z : s .number ≡ 0) where
+    pub at-record : i < s .kept → lineAt s list i ≡ recordLine list i
+    unfolding lineAt
+    at-record l = pick-true _ _ (eq-eqb _ _ z) ∙ pick-true _ _ (lt-ltb _ _ l)
+
+    pub at-totals : i ≡ s .kept → lineAt s list i ≡ totalsLine (s .total) (s .kept)
+    unfolding lineAt
+    at-totals e = let l : s .kept ≤ i = omega arith in pick-true _ _ (eq-eqb _ _ z) ∙ pick-false _ _ (le-ltb _ _ l) ∙ pick-true _ _ (eq-eqb _ _ e)
+
+    pub at-end : s .kept < i → lineAt s list i ≡ []
+    unfolding lineAt
+    at-end g =
+        let l : s .kept ≤ i = omega arith in
+        let d : i ≡ s .kept → ⊥ = λ e. omega arith in
+        pick-true _ _ (eq-eqb _ _ z) ∙ pick-false _ _ (le-ltb _ _ l) ∙ pick-false _ _ (ne-eqb _ _ d)
 
   module _ (d : s .number ≡ 0 → ⊥) where
-    pub line-refusal : i ≡ 0 → Printed (refusalLine (s .number)) out out′ r → Printed (lineAt s list i) out out′ r
+    pub at-refusal : i ≡ 0 → lineAt s list i ≡ refusalLine (s .number)
     unfolding lineAt
-    line-refusal e p = so _ (pick-false _ _ (ne-eqb _ _ d) ∙ pick-true _ _ (eq-eqb _ _ e)) p
+    at-refusal e = pick-false _ _ (ne-eqb _ _ d) ∙ pick-true _ _ (eq-eqb _ _ e)
 
-  module _ (z : s .number ≡ 0) where
-    pub line-record : i < s .kept → Printed (recordLine list i) out out′ r → Printed (lineAt s list i) out out′ r
+    pub at-none : (i ≡ 0 → ⊥) → lineAt s list i ≡ []
     unfolding lineAt
-    line-record l p = so _ (pick-true _ _ (eq-eqb _ _ z) ∙ pick-true _ _ (lt-ltb _ _ l)) p
+    at-none e = pick-false _ _ (ne-eqb _ _ d) ∙ pick-false _ _ (ne-eqb _ _ e)
 
-    pub line-totals : s .kept ≤ i → i ≡ s .kept → Printed (totalsLine (s .total) (s .kept)) out out′ r → Printed (lineAt s list i) out out′ r
-    unfolding lineAt
-    line-totals l e p = so _ (pick-true _ _ (eq-eqb _ _ z) ∙ pick-false _ _ (le-ltb _ _ l) ∙ pick-true _ _ (eq-eqb _ _ e)) p
+module _ (s : Survey) (list : List ℕ) (i : ℕ) (out out′ : List ℕ) (r : ℕ) where
+  pub line-refusal : (s .number ≡ 0 → ⊥) → i ≡ 0 → Printed (refusalLine (s .number)) out out′ r → Printed (lineAt s list i) out out′ r
+  line-refusal d e p = rw (at-refusal s list i d e) p
+
+  pub line-record : s .number ≡ 0 → i < s .kept → Printed (recordLine list i) out out′ r → Printed (lineAt s list i) out out′ r
+  line-record z l p = rw (at-record s list i z l) p
+
+  pub line-totals : s .number ≡ 0 → i ≡ s .kept → Printed (totalsLine (s .total) (s .kept)) out out′ r → Printed (lineAt s list i) out out′ r
+  line-totals z e p = rw (at-totals s list i z e) p
 
 module _ (s : Survey) (list : List ℕ) (i : ℕ) (out : List ℕ) where
   pub line-after-refusal : (s .number ≡ 0 → ⊥) → (i ≡ 0 → ⊥) → Printed (lineAt s list i) out out 0
-  unfolding lineAt
-  line-after-refusal d e = printed-none _ out (pick-false _ _ (ne-eqb _ _ d) ∙ pick-false _ _ (ne-eqb _ _ e))
+  line-after-refusal d e = printed-none _ out (at-none s list i d e)
 
   pub line-after-totals : s .number ≡ 0 → s .kept ≤ i → (i ≡ s .kept → ⊥) → Printed (lineAt s list i) out out 0
-  unfolding lineAt
-  line-after-totals z l e = printed-none _ out (pick-true _ _ (eq-eqb _ _ z) ∙ pick-false _ _ (le-ltb _ _ l) ∙ pick-false _ _ (ne-eqb _ _ e))
+  line-after-totals z l e = let g : s .kept < i = omega (arith, e) in printed-none _ out (at-end s list i z g)

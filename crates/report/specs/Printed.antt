@@ -5,6 +5,7 @@ use Prim.Native.Nat.{ℕ, _+_, _*_}
 use lib.Dec.{eqb, ltb, leb}
 use lib.ListN.{length, take, drop}
 use Rattle.base.specs.Pick.{pick}
+use Rattle.rules.specs.declared.Fault.{Fault}
 use Rattle.rules.specs.declared.Survey.{Survey}
 use Rattle.text.specs.Lines.{lineOf}
 
@@ -35,3 +36,16 @@ inRoom size text = pick (leb 64 size) text []
 pub record Printed (text out out′ : List ℕ) (r : ℕ) : Type 0 where
   pub left : out′ ≡ inRoom (length out) text ++ drop (length (inRoom (length out) text)) out
   pub count : r ≡ length (inRoom (length out) text)
+
+-- ---- all of it
+
+unfoldable pub faultLines : List Fault → List ℕ
+faultLines [] = []
+faultLines (f ∷ fs) = lineOf 0x46 (f .channel ∷ f .sequence ∷ f .place .0 ∷ f .fault ∷ []) ++ faultLines fs
+
+-- what is printed of a survey with this number and these faults, which has room for so many records
+unfoldable pub surveyText : ℕ → ℕ → List Fault → List ℕ
+surveyText room number fs =
+    pick (eqb number 0)
+    (faultLines (take room fs) ++ totalsLine (length fs) (length (take room fs)))
+    (refusalLine number)

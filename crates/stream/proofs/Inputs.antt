@@ -12,6 +12,7 @@ use borrow.Author.Tests.{eq-eqb, ne-eqb, le-leb}
 use Rattle.base.specs.Pick.{pick}
 use Rattle.base.specs.Run.{run}
 use Rattle.base.specs.Bytes.{Byte}
+use Rattle.base.specs.Calls.{ExactlyOne}
 use Rattle.base.proofs.Cases.{by-eq, by-lt}
 use Rattle.base.proofs.Picks.{pick-true, pick-false}
 use Rattle.base.proofs.Runs.{run-zero, run-more, run-same, run-length-le}
@@ -247,3 +248,14 @@ least-within a end buf e = sym (length-take-le end buf (omega (arith, e)))
 
 pub refill-reads : (r : Reading) (got end : ℕ) (buf list list′ : List ℕ) (s : Reading) → end ≡ min got (length buf) → Next r (take end buf) list s list′ → Refilled r got buf list s list′
 refill-reads r got end buf list list′ s e n = rw (e, take-least got buf) at n
+
+-- one answer and one content of the list, whatever was known before
+pub refilled-one : (r : Reading) (got : ℕ) (buf list : List ℕ) → ExactlyOne (Reading × List ℕ) (λ o. Refilled r got buf list (o .0) (o .1))
+refilled-one r got buf list =
+    let part = take got buf in
+    let fs = faultsAfter (nextSystem r part) (r .count / 12000) part (r .total) in
+    record {
+      outcome = (record { count = min (r .count + length part) countedTo; system = nextSystem r part; total = r .total + length fs; last = length part }, more list (r .total) fs);
+      meets = next-reads r part list (more list (r .total) fs) (nextSystem r part) (sequencesOf (nextSystem r part)) _ (r .total + length fs) refl refl refl (record { total = refl; left = refl });
+      only = λ o n i. (record { count = n .count i; system = n .system i; total = n .noted .total i; last = n .last i }, n .noted .left i);
+    }

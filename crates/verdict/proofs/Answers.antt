@@ -141,9 +141,12 @@ module _ (r : Reading) (size : ℕ) (f : FrameLength) (s : Survey) (j : Judged (
         answer = sym (pick-false _ _ (ne-eqb _ _ c));
       })
 
-pub answered-one : (r : Reading) (size : ℕ) → ExactlyOne Survey (Answered r size)
+pub answered-is : (r : Reading) (size : ℕ) → Answered r size (answerOf r size)
 unfolding answerOf
-answered-one r size =
+answered-is r size =
     by-eq (r .count) (48000 * sequencesOf (r .system))
-    (λ e. record { outcome = tallied (r .total) size; meets = answers-right r size Right _ (judged-right _ _ _ refl e) refl refl; only = λ s a. a .answer ∙ pick-true _ _ (eq-eqb _ _ e) })
-    (λ d. record { outcome = refusal 2; meets = answers-wrong r size Wrong _ (judged-wrong _ _ _ refl d) refl refl; only = λ s a. a .answer ∙ pick-false _ _ (ne-eqb _ _ d) })
+    (λ e. rw (eq-eqb (r .count) (48000 * sequencesOf (r .system)) e) (answers-right r size Right _ (judged-right _ _ _ refl e) refl (pick-true _ _ refl)))
+    (λ d. rw (ne-eqb (r .count) (48000 * sequencesOf (r .system)) d) (answers-wrong r size Wrong _ (judged-wrong _ _ _ refl d) refl (pick-false _ _ refl)))
+
+pub answered-one : (r : Reading) (size : ℕ) → ExactlyOne Survey (Answered r size)
+answered-one r size = record { outcome = answerOf r size; meets = answered-is r size; only = λ s a. a .answer }
