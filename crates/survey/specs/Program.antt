@@ -4,6 +4,12 @@ use mathlib.Core.Logic.{_⊎_}
 use mathlib.Core.List.{List, _++_}
 use Prim.Native.Nat.{ℕ, _+_, _*_, _≤_, _<_}
 use lib.ListN.{length, take}
+use Rattle.rules.specs.declared.System.{System}
+use Rattle.rules.specs.Systems.{numberOfSystem}
+use Rattle.rules.specs.Faults.{frameFaults}
+use Rattle.rules.specs.Survey.{surveyNumber}
+use Rattle.report.specs.Printed.{lineAt, surveyText}
+use Rattle.verdict.specs.Length.{answerOf}
 use Rattle.stream.specs.declared.Reading.{Reading}
 use Rattle.stream.specs.Input.{Read}
 
@@ -24,3 +30,13 @@ pub record Ended (list₀ buf list : List ℕ) (r : Reading) : Type 0 where
   pub before : List ℕ
   pub read : Read list₀ (bytesOf before buf r) list r
   pub last : (r .last < 12000) ⊎ (12000 * 18446744073709551615 ≤ length (bytesOf before buf r))
+
+-- ---- what is printed
+
+-- line i of what is printed of a reading
+abbrev pub readingLine : Reading → List ℕ → ℕ → List ℕ
+readingLine r list i = lineAt (answerOf r (length list)) list i
+
+-- what document 01 has printed of an input in a system: its survey with room for 64 records, or a refusal
+abbrev pub inputText : System → List ℕ → List ℕ
+inputText y bytes = surveyText 64 (surveyNumber (numberOfSystem y) (length bytes)) (frameFaults y bytes)

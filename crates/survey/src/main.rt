@@ -1,9 +1,9 @@
 // Surveys the frame on standard input, one sequence of 12,000 bytes at a time, and prints the first 64 faults and the totals.
 ghost use mathlib.Core.Path.{_≡_};
 ghost use lib.ListN.{length};
-ghost use Rattle.survey.specs.Program.{Ended};
+ghost use Rattle.survey.specs.Program.{readingLine, Ended};
+ghost use Rattle.report.specs.Printed.{Printed};
 use layout::SEQUENCE;
-use rules::Survey;
 use stream::Reading;
 
 // A list of 64 records has at most so many lines.
@@ -33,10 +33,18 @@ fn print_line(line: &[u8], n: usize) {
     }
 }
 
-fn print_all(s: Survey, list: &[u32], line: &mut [u8]) {
+// Line i of what is printed of an input that was read, and its length.
+fn line_of(r: Reading, list: &[u32], i: u32, line: &mut [u8]) -> usize
+    ensures { λ n. ⌜ Printed (readingLine r (now (list .entry)) i) (now (line .entry)) (now (line .exit)) n ⌝ }
+{
+    let s = verdict::answer(r, list.len());
+    report::line(s, list, i, line)
+}
+
+fn print_all(r: Reading, list: &[u32], line: &mut [u8]) {
     let mut i: u32 = 0;
     while i < LINES {
-        let n = report::line(s, list, i, line);
+        let n = line_of(r, list, i, line);
         print_line(line, n);
         i += 1;
     }
@@ -47,6 +55,5 @@ fn main() {
     let mut list = [0u32; 256];
     let mut line = [0u8; 64];
     let r = read_all(&mut buf, &mut list);
-    let s = verdict::answer(r, list.len());
-    print_all(s, &list, &mut line);
+    print_all(r, &list, &mut line);
 }

@@ -27,6 +27,6 @@ unfolding lineOf fieldsOf decimal digitsIn pick
 known-totals = refl
 
 -- E, 2
-known-refusal : lineOf 0x45 (2 ∷ []) ≡ 0x45 ∷ 0x09 ∷ 0x32 ∷ 0x0A ∷ []
+pub known-refusal : lineOf 0x45 (2 ∷ []) ≡ 0x45 ∷ 0x09 ∷ 0x32 ∷ 0x0A ∷ []
 unfolding lineOf fieldsOf decimal digitsIn pick
 known-refusal = refl

@@ -7,16 +7,16 @@ use Rattle.survey.proofs.print_all.Statement.{statement}
 use Rattle.survey.proofs.print_all.Tie as tie
 
 abbrev Inv-loop : tie.InvT-loop
-Inv-loop s list line₀ i₀ line i = (i ≤ 65) × (length line ≡ length line₀)
+Inv-loop r list line₀ i₀ line i = (i ≤ 65) × (length line ≡ length line₀)
 
 abbrev μ-loop : tie.MeasureT-loop
-μ-loop s list line₀ i₀ line i = 65 - i
+μ-loop r list line₀ i₀ line i = 65 - i
 
 loop-holds : tie.Need-loop-holds Inv-loop μ-loop
 loop-holds c = search needs
 
-line-requires : tie.Need-line-requires Inv-loop μ-loop
-line-requires c κs = search needs
+line-of-requires : tie.Need-line-of-requires Inv-loop μ-loop
+line-of-requires c κs = search needs
 
 print-line-requires : tie.Need-print-line-requires Inv-loop μ-loop
 print-line-requires c κs = search needs
@@ -43,7 +43,7 @@ print-all-spec =
     Inv-loop
     μ-loop
     loop-holds
-    line-requires
+    line-of-requires
     print-line-requires
     add-i
     loop-less

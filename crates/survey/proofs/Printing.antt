@@ -1,0 +1,46 @@
+-- What is printed is what document 01 says of the bytes that the refills gave. Assumes nothing.
+use mathlib.Core.Path.{_≡_, refl, sym, ap, _∙_}
+use mathlib.Core.List.{List, [], _∷_, _++_}
+use Prim.Native.Nat.{ℕ, _*_, _/_, _<_}
+use native.Mathlib.Omega.{arith}
+use lib.ListN.{length}
+use Rattle.base.specs.Run.{run}
+use Rattle.base.proofs.Picks.{pick-false}
+use Rattle.rules.specs.declared.System.{System}
+use Rattle.rules.specs.declared.Survey.{Survey}
+use Rattle.rules.specs.Systems.{sequencesOf, rateOf, numberOfSystem}
+use Rattle.rules.specs.Faults.{frameFaults}
+use Rattle.rules.proofs.Systems.{system-number, sequences-some}
+use Rattle.rules.proofs.Records.{noted-length}
+use Rattle.rules.proofs.Calls.{survey-2}
+use Rattle.text.proofs.Known.{known-refusal}
+use Rattle.report.specs.Printed.{refusalLine, lineAt, surveyText, Printed}
+use Rattle.report.proofs.Text.{lines-text}
+use Rattle.stream.specs.declared.Reading.{Reading}
+use Rattle.stream.specs.Input.{dsfIn, Read}
+use Rattle.verdict.specs.Length.{answerOf, Answered}
+use Rattle.verdict.proofs.Answers.{answered-is}
+use Rattle.survey.specs.Program.{bytesOf, Ended, readingLine, inputText}
+
+-- the answer is the one that stands in the line
+pub line-printed : (r : Reading) (list : List ℕ) (i : ℕ) (s : Survey) (line line′ : List ℕ) (n : ℕ) → Answered r (length list) s → Printed (lineAt s list i) line line′ n
+    → Printed (readingLine r list i) line line′ n
+line-printed r list i s line line′ n a p = rw (a .answer) at p
+
+module _ (list₀ buf list : List ℕ) (r : Reading) (room : length list₀ ≡ 256) (d : Ended list₀ buf list r) (y : System) (rate : rateOf y ≡ dsfIn (bytesOf (d .before) buf r)) where
+  -- the 65 lines, of the bytes that the refills gave, in every system of the first block's rate
+  pub program-prints : run (readingLine r list) 65 ≡ inputText y (bytesOf (d .before) buf r)
+  program-prints =
+      let size : length list ≡ length list₀ = noted-length (d .read .noted) in
+      let s = answered-is r (length list) .surveys list₀ (bytesOf (d .before) buf r) list (sym size) (d .read) y rate in
+      let four : length list₀ / 4 ≡ 64 = omega arith in
+      lines-text _ (frameFaults y (bytesOf (d .before) buf r)) list₀ list _ 65 (omega arith) (s .answer) (s .left) ∙ rw four refl
+
+  -- "A wrong length .. prints `E`, tab, `2` only."
+  pub prints-wrong-length : (length (bytesOf (d .before) buf r) ≡ 48000 * sequencesOf y → ⊥) → run (readingLine r list) 65 ≡ 0x45 ∷ 0x09 ∷ 0x32 ∷ 0x0A ∷ []
+  unfolding surveyText refusalLine
+  prints-wrong-length w = program-prints ∙ rw (survey-2 (numberOfSystem y) (length (bytesOf (d .before) buf r)) y (system-number y) w) (pick-false _ _ refl) ∙ known-refusal
+
+  -- "or fewer than four bytes"
+  pub prints-too-short : length (bytesOf (d .before) buf r) < 4 → run (readingLine r list) 65 ≡ 0x45 ∷ 0x09 ∷ 0x32 ∷ 0x0A ∷ []
+  prints-too-short l = prints-wrong-length (λ e. omega (arith, e, sequences-some y))
