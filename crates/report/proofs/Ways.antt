@@ -23,7 +23,7 @@ in-room letter xs size l = rw (le-leb (length xs) 5 l) refl
 printed : (letter : ℕ) (xs text out out′ : List ℕ) (r : ℕ) → length xs ≤ 5 → text ≡ lineOf letter xs → Lined letter xs out out′ r → Printed text out out′ r
 printed letter xs text out out′ r l e p =
     let s : lineIn letter xs (length out) ≡ inRoom (length out) text = in-room letter xs (length out) l ∙ ap (inRoom (length out)) (sym e) in
-    record { left = rw s at (p .left); count = rw s at (p .count) }
+    record { left = rw s at (p .left); count = rw s at (p .count); small = p .small }
 
 none-in : (size : ℕ) → inRoom size [] ≡ []
 unfolding inRoom
@@ -33,7 +33,7 @@ none-in size = pick-either (λ l. l ≡ []) (leb 64 size) refl refl
 printed-none : (text out : List ℕ) → text ≡ [] → Printed text out out 0
 printed-none text out e =
     let s : inRoom (length out) text ≡ [] = ap (inRoom (length out)) e ∙ none-in (length out) in
-    record { left = rw s refl; count = rw s refl }
+    record { left = rw s refl; count = rw s refl; small = omega arith }
 
 -- ---- the ways out
 

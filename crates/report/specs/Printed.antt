@@ -1,10 +1,11 @@
 -- What is printed of a survey (document 01: the survey program).
 use mathlib.Core.Path.{_≡_}
 use mathlib.Core.List.{List, [], _∷_, _++_}
-use Prim.Native.Nat.{ℕ, _+_, _*_}
+use Prim.Native.Nat.{ℕ, _+_, _*_, _≤_}
 use lib.Dec.{eqb, ltb, leb}
 use lib.ListN.{length, take, drop}
 use Rattle.base.specs.Pick.{pick}
+use Rattle.base.specs.Run.{run}
 use Rattle.rules.specs.declared.Fault.{Fault}
 use Rattle.rules.specs.declared.Survey.{Survey}
 use Rattle.text.specs.Lines.{lineOf}
@@ -36,8 +37,32 @@ inRoom size text = pick (leb 64 size) text []
 pub record Printed (text out out′ : List ℕ) (r : ℕ) : Type 0 where
   pub left : out′ ≡ inRoom (length out) text ++ drop (length (inRoom (length out) text)) out
   pub count : r ≡ length (inRoom (length out) text)
+  pub small : r ≤ 64
 
 -- ---- all of it
+
+-- the 65 lines that a list of 64 records has at most
+abbrev pub linesOf : Survey → List ℕ → List ℕ
+linesOf s list = run (lineAt s list) 65
+
+-- in a buffer of so many bytes: nothing where there are less than 4,160
+unfoldable pub textIn : Survey → List ℕ → ℕ → List ℕ
+textIn s list size = pick (leb 4160 size) (linesOf s list) []
+
+-- the lines stand at the start of out, and behind them all is as it was
+pub record Texted (s : Survey) (list out out′ : List ℕ) (r : ℕ) : Type 0 where
+  pub left : out′ ≡ textIn s list (length out) ++ drop (length (textIn s list (length out))) out
+  pub count : r ≡ length (textIn s list (length out))
+
+-- the loop: i lines stand at the start of out, which was out₀
+pub record Texting (s : Survey) (list out₀ out : List ℕ) (at i : ℕ) : Type 0 where
+  pub left : out ≡ run (lineAt s list) i ++ drop (length (run (lineAt s list) i)) out₀
+  pub ends : at ≡ length (run (lineAt s list) i)
+  pub size : length out ≡ length out₀
+  pub small : at ≤ 64 * i
+  pub turns : i ≤ 65
+
+-- ---- what it is of a survey's faults
 
 unfoldable pub faultLines : List Fault → List ℕ
 faultLines [] = []

@@ -1,7 +1,12 @@
 // What is printed of a survey, line by line: its records, then its totals; or its refusal alone.
 ghost use mathlib.Core.List.{[], _∷_};
-ghost use Rattle.report.specs.Printed.{recordLine, totalsLine, refusalLine, lineAt, Printed};
+ghost use Rattle.report.specs.Printed.{recordLine, totalsLine, refusalLine, lineAt, Printed, Texted};
 use rules::Survey;
+
+// The lines of a list of 64 records at most, and the bytes that they want.
+const LINES: u32 = 65;
+
+const ROOM: usize = 4160;
 
 // Record i of the list, in its four fields. There is no line where the list does not hold it.
 fn record_line(list: &[u32], i: u32, out: &mut [u8]) -> usize
@@ -29,7 +34,7 @@ fn refusal_line(number: u32, out: &mut [u8]) -> usize
 }
 
 // Line i of what is printed, at the start of out, and its length; 0 past the last line, or where out has less than 64 bytes.
-pub fn line(s: Survey, list: &[u32], i: u32, out: &mut [u8]) -> usize
+fn line(s: Survey, list: &[u32], i: u32, out: &mut [u8]) -> usize
     ensures { λ r. ⌜ Printed (lineAt s (now (list .entry)) i) (now (out .entry)) (now (out .exit)) r ⌝ }
 {
     if s.number != 0 {
@@ -45,4 +50,21 @@ pub fn line(s: Survey, list: &[u32], i: u32, out: &mut [u8]) -> usize
         return totals_line(s.total, s.kept, out);
     }
     0
+}
+
+// The lines of a survey, one behind the other, at the start of out, and their bytes. Nothing is written where out has less than
+// 4,160 bytes.
+pub fn text(s: Survey, list: &[u32], out: &mut [u8]) -> usize
+    ensures { λ r. ⌜ Texted s (now (list .entry)) (now (out .entry)) (now (out .exit)) r ⌝ }
+{
+    if out.len() < ROOM {
+        return 0;
+    }
+    let mut at: usize = 0;
+    let mut i: u32 = 0;
+    while i < LINES {
+        at += line(s, list, i, &mut out[at..]);
+        i += 1;
+    }
+    at
 }

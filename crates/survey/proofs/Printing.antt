@@ -4,8 +4,8 @@ use mathlib.Core.List.{List, [], _∷_, _++_}
 use Prim.Native.Nat.{ℕ, _*_, _/_, _<_}
 use native.Mathlib.Omega.{arith}
 use lib.ListN.{length}
-use Rattle.base.specs.Run.{run}
-use Rattle.base.proofs.Picks.{pick-false}
+use borrow.Author.Tests.{le-leb}
+use Rattle.base.proofs.Picks.{pick-true, pick-false}
 use Rattle.rules.specs.declared.System.{System}
 use Rattle.rules.specs.declared.Survey.{Survey}
 use Rattle.rules.specs.Systems.{sequencesOf, rateOf, numberOfSystem}
@@ -14,22 +14,17 @@ use Rattle.rules.proofs.Systems.{system-number, sequences-some}
 use Rattle.rules.proofs.Records.{noted-length}
 use Rattle.rules.proofs.Calls.{survey-2}
 use Rattle.text.proofs.Known.{known-refusal}
-use Rattle.report.specs.Printed.{refusalLine, lineAt, surveyText, Printed}
-use Rattle.report.proofs.Text.{lines-text}
+use Rattle.report.specs.Printed.{refusalLine, surveyText, linesOf, textIn, Texted}
+use Rattle.report.proofs.Said.{lines-text}
 use Rattle.stream.specs.declared.Reading.{Reading}
 use Rattle.stream.specs.Input.{dsfIn, Read}
 use Rattle.verdict.specs.Length.{answerOf, Answered}
 use Rattle.verdict.proofs.Answers.{answered-is}
-use Rattle.survey.specs.Program.{bytesOf, Ended, readingLine, inputText}
-
--- the answer is the one that stands in the line
-pub line-printed : (r : Reading) (list : List ℕ) (i : ℕ) (s : Survey) (line line′ : List ℕ) (n : ℕ) → Answered r (length list) s → Printed (lineAt s list i) line line′ n
-    → Printed (readingLine r list i) line line′ n
-line-printed r list i s line line′ n a p = rw (a .answer) at p
+use Rattle.survey.specs.Program.{bytesOf, Ended, inputText, Starts, Said}
 
 module _ (list₀ buf list : List ℕ) (r : Reading) (room : length list₀ ≡ 256) (d : Ended list₀ buf list r) (y : System) (rate : rateOf y ≡ dsfIn (bytesOf (d .before) buf r)) where
-  -- the 65 lines, of the bytes that the refills gave, in every system of the first block's rate
-  pub program-prints : run (readingLine r list) 65 ≡ inputText y (bytesOf (d .before) buf r)
+  -- the lines are the text of the bytes that the refills gave, in every system of the first block's rate
+  pub program-prints : linesOf (answerOf r (length list)) list ≡ inputText y (bytesOf (d .before) buf r)
   program-prints =
       let size : length list ≡ length list₀ = noted-length (d .read .noted) in
       let s = answered-is r (length list) .surveys list₀ (bytesOf (d .before) buf r) list (sym size) (d .read) y rate in
@@ -37,10 +32,21 @@ module _ (list₀ buf list : List ℕ) (r : Reading) (room : length list₀ ≡ 
       lines-text _ (frameFaults y (bytesOf (d .before) buf r)) list₀ list _ 65 (omega arith) (s .answer) (s .left) ∙ rw four refl
 
   -- "A wrong length .. prints `E`, tab, `2` only."
-  pub prints-wrong-length : (length (bytesOf (d .before) buf r) ≡ 48000 * sequencesOf y → ⊥) → run (readingLine r list) 65 ≡ 0x45 ∷ 0x09 ∷ 0x32 ∷ 0x0A ∷ []
+  pub prints-wrong-length : (length (bytesOf (d .before) buf r) ≡ 48000 * sequencesOf y → ⊥) → linesOf (answerOf r (length list)) list ≡ 0x45 ∷ 0x09 ∷ 0x32 ∷ 0x0A ∷ []
   unfolding surveyText refusalLine
   prints-wrong-length w = program-prints ∙ rw (survey-2 (numberOfSystem y) (length (bytesOf (d .before) buf r)) y (system-number y) w) (pick-false _ _ refl) ∙ known-refusal
 
   -- "or fewer than four bytes"
-  pub prints-too-short : length (bytesOf (d .before) buf r) < 4 → run (readingLine r list) 65 ≡ 0x45 ∷ 0x09 ∷ 0x32 ∷ 0x0A ∷ []
+  pub prints-too-short : length (bytesOf (d .before) buf r) < 4 → linesOf (answerOf r (length list)) list ≡ 0x45 ∷ 0x09 ∷ 0x32 ∷ 0x0A ∷ []
   prints-too-short l = prints-wrong-length (λ e. omega (arith, e, sequences-some y))
+
+pub text-said : (r : Reading) (list out out′ : List ℕ) (s : Survey) (n : ℕ) → Answered r (length list) s → Texted s list out out′ n → Said r list out out′ n
+unfolding textIn
+text-said r list out out′ s n a t =
+    let t′ : Texted (answerOf r (length list)) list out out′ n = rw (a .answer) at t in
+    record {
+      says = λ list₀ buf room wide d y rate.
+          let e : textIn (answerOf r (length list)) list (length out) ≡ inputText y (bytesOf (d .before) buf r) = pick-true _ _ (le-leb 4160 (length out) wide) ∙ program-prints list₀ buf list r room d y rate in
+          record { left = rw e at (t′ .left); count = rw e at (t′ .count) };
+      texted = t′;
+    }

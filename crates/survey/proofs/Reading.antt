@@ -41,7 +41,7 @@ module _ (list₀ buf list : List ℕ) (r : Reading) (left : ℕ) (g : Going lis
           size = noted-length (d .noted) ∙ g .size;
         }
 
--- ---- a line that is cut off behind its end
+-- ---- a text that is cut off behind its end
 
-pub cut-length : (n : ℕ) (line : List ℕ) → n ≤ length line → n ≡ length (take n line)
-cut-length n line l = sym (length-take-le n line l)
+pub cut-length : (n : ℕ) (text : List ℕ) → n ≤ length text → n ≡ length (take n text)
+cut-length n text l = sym (length-take-le n text l)

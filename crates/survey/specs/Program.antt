@@ -3,15 +3,15 @@ use mathlib.Core.Path.{_≡_}
 use mathlib.Core.Logic.{_⊎_}
 use mathlib.Core.List.{List, _++_}
 use Prim.Native.Nat.{ℕ, _+_, _*_, _≤_, _<_}
-use lib.ListN.{length, take}
+use lib.ListN.{length, take, drop}
 use Rattle.rules.specs.declared.System.{System}
-use Rattle.rules.specs.Systems.{numberOfSystem}
+use Rattle.rules.specs.Systems.{rateOf, numberOfSystem}
 use Rattle.rules.specs.Faults.{frameFaults}
 use Rattle.rules.specs.Survey.{surveyNumber}
-use Rattle.report.specs.Printed.{lineAt, surveyText}
+use Rattle.report.specs.Printed.{surveyText, Texted}
 use Rattle.verdict.specs.Length.{answerOf}
 use Rattle.stream.specs.declared.Reading.{Reading}
-use Rattle.stream.specs.Input.{Read}
+use Rattle.stream.specs.Input.{dsfIn, Read}
 
 -- the bytes that the refills gave: those before the last, and what the last left in the buffer
 abbrev pub bytesOf : List ℕ → List ℕ → Reading → List ℕ
@@ -33,10 +33,17 @@ pub record Ended (list₀ buf list : List ℕ) (r : Reading) : Type 0 where
 
 -- ---- what is printed
 
--- line i of what is printed of a reading
-abbrev pub readingLine : Reading → List ℕ → ℕ → List ℕ
-readingLine r list i = lineAt (answerOf r (length list)) list i
-
 -- what document 01 has printed of an input in a system: its survey with room for 64 records, or a refusal
 abbrev pub inputText : System → List ℕ → List ℕ
 inputText y bytes = surveyText 64 (surveyNumber (numberOfSystem y) (length bytes)) (frameFaults y bytes)
+
+-- t stands at the start of out′, which was out; n are its bytes
+pub record Starts (t out out′ : List ℕ) (n : ℕ) : Type 0 where
+  pub left : out′ ≡ t ++ drop (length t) out
+  pub count : n ≡ length t
+
+-- of an input that was read, out′ has what document 01 says of its bytes, in every system of the first block's rate
+pub record Said (r : Reading) (list out out′ : List ℕ) (n : ℕ) : Type 0 where
+  pub says : (list₀ buf : List ℕ) → length list₀ ≡ 256 → 4160 ≤ length out → (d : Ended list₀ buf list r) (y : System) → rateOf y ≡ dsfIn (bytesOf (d .before) buf r)
+      → Starts (inputText y (bytesOf (d .before) buf r)) out out′ n
+  pub texted : Texted (answerOf r (length list)) list out out′ n

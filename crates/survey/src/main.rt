@@ -1,13 +1,9 @@
 // Surveys the frame on standard input, one sequence of 12,000 bytes at a time, and prints the first 64 faults and the totals.
 ghost use mathlib.Core.Path.{_≡_};
 ghost use lib.ListN.{length};
-ghost use Rattle.survey.specs.Program.{readingLine, Ended};
-ghost use Rattle.report.specs.Printed.{Printed};
+ghost use Rattle.survey.specs.Program.{Ended, Said};
 use layout::SEQUENCE;
 use stream::Reading;
-
-// A list of 64 records has at most so many lines.
-const LINES: u32 = 65;
 
 // Reads the input to its end, since nothing is to be printed before all of it was read.
 fn read_all(buf: &mut [u8], list: &mut [u32]) -> Reading
@@ -27,33 +23,26 @@ fn read_all(buf: &mut [u8], list: &mut [u32]) -> Reading
     r
 }
 
-fn print_line(line: &[u8], n: usize) {
-    if n <= line.len() {
-        io::write_all(1, &line[..n]);
-    }
-}
-
-// Line i of what is printed of an input that was read, and its length.
-fn line_of(r: Reading, list: &[u32], i: u32, line: &mut [u8]) -> usize
-    ensures { λ n. ⌜ Printed (readingLine r (now (list .entry)) i) (now (line .entry)) (now (line .exit)) n ⌝ }
+// What is printed of an input that was read, and how many bytes it has.
+fn text_of(r: Reading, list: &[u32], text: &mut [u8]) -> usize
+    ensures { λ n. ⌜ Said r (now (list .entry)) (now (text .entry)) (now (text .exit)) n ⌝ }
 {
     let s = verdict::answer(r, list.len());
-    report::line(s, list, i, line)
+    report::text(s, list, text)
 }
 
-fn print_all(r: Reading, list: &[u32], line: &mut [u8]) {
-    let mut i: u32 = 0;
-    while i < LINES {
-        let n = line_of(r, list, i, line);
-        print_line(line, n);
-        i += 1;
+fn print(text: &[u8], n: usize) {
+    if n <= text.len() {
+        io::write_all(1, &text[..n]);
     }
 }
 
+// The list has room for 64 records, the text for their lines.
 fn main() {
     let mut buf = [0u8; SEQUENCE];
     let mut list = [0u32; 256];
-    let mut line = [0u8; 64];
+    let mut text = [0u8; 4160];
     let r = read_all(&mut buf, &mut list);
-    print_all(r, &list, &mut line);
+    let n = text_of(r, &list, &mut text);
+    print(&text, n);
 }

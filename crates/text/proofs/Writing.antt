@@ -109,8 +109,8 @@ module _ (xs out₀ : List ℕ) (at : ℕ) (a : FieldsAsked xs out₀ at) where
 
 -- ---- line
 
-lined : (letter : ℕ) (xs out₀ out′ text : List ℕ) (r : ℕ) → lineIn letter xs (length out₀) ≡ text → out′ ≡ text ++ drop (length text) out₀ → r ≡ length text → Lined letter xs out₀ out′ r
-lined letter xs out₀ out′ text r e l er = record { left = rw e l; count = rw e er }
+lined : (letter : ℕ) (xs out₀ out′ text : List ℕ) (r : ℕ) → lineIn letter xs (length out₀) ≡ text → out′ ≡ text ++ drop (length text) out₀ → r ≡ length text → r ≤ 64 → Lined letter xs out₀ out′ r
+lined letter xs out₀ out′ text r e l er m = record { left = rw e l; count = rw e er; small = m }
 
 module _ (letter : ℕ) (xs : List ℕ) (size : ℕ) where
   line-whole : length xs ≤ 5 → 64 ≤ size → lineIn letter xs size ≡ lineOf letter xs
@@ -127,11 +127,11 @@ module _ (letter : ℕ) (xs : List ℕ) (size : ℕ) where
 
 module _ (letter : ℕ) (xs out₀ : List ℕ) where
   pub line-many : 5 < length xs → Lined letter xs out₀ out₀ 0
-  line-many l = lined letter xs out₀ out₀ [] 0 (line-none-many letter xs (length out₀) l) refl refl
+  line-many l = lined letter xs out₀ out₀ [] 0 (line-none-many letter xs (length out₀) l) refl refl (omega arith)
 
   module _ (most : length xs ≤ 5) where
     pub line-narrow : length out₀ < 64 → Lined letter xs out₀ out₀ 0
-    line-narrow l = lined letter xs out₀ out₀ [] 0 (line-none-narrow letter xs (length out₀) most l) refl refl
+    line-narrow l = lined letter xs out₀ out₀ [] 0 (line-none-narrow letter xs (length out₀) most l) refl refl (omega arith)
 
     module _ (room : 64 ≤ length out₀) (out : List ℕ) (first : ℕ) (p : Put (letter ∷ []) 0 out₀ out first) (es : length out ≡ length out₀) where
       module _ (out′ : List ℕ) (end : ℕ) (q : PutField (fieldsOf xs) 55 first out out′ end) (es′ : length out′ ≡ length out) where
@@ -139,4 +139,4 @@ module _ (letter : ℕ) (xs out₀ : List ℕ) where
         unfolding lineOf
         line-done out″ r t =
             let w = put-both (put-both p (q .put)) t in
-            lined letter xs out₀ out″ (lineOf letter xs) r (line-whole letter xs (length out₀) most room) (w .left ∙ rw zero-add refl) (w .ends ∙ zero-add _)
+            lined letter xs out₀ out″ (lineOf letter xs) r (line-whole letter xs (length out₀) most room) (w .left ∙ rw zero-add refl) (w .ends ∙ zero-add _) (omega (arith, p .ends, q .small, t .ends))

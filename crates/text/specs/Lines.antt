@@ -64,3 +64,4 @@ lineIn letter xs size = pick (leb (length xs) 5 && leb 64 size) (lineOf letter x
 pub record Lined (letter : ℕ) (xs out out′ : List ℕ) (r : ℕ) : Type 0 where
   pub left : out′ ≡ lineIn letter xs (length out) ++ drop (length (lineIn letter xs (length out))) out
   pub count : r ≡ length (lineIn letter xs (length out))
+  pub small : r ≤ 64

@@ -1,8 +1,8 @@
--- `survey::print_line` meets its contract: the line is cut where it ends. Assumes nothing.
+-- `survey::print` meets its contract: the text is cut where it ends. Assumes nothing.
 use borrow.Author.Needs.{needs}
 use Rattle.survey.proofs.Reading.{cut-length}
-use Rattle.survey.proofs.print_line.Statement.{statement}
-use Rattle.survey.proofs.print_line.Tie as tie
+use Rattle.survey.proofs.print.Statement.{statement}
+use Rattle.survey.proofs.print.Tie as tie
 
 slice-aggregate-write-all : tie.Need-slice-aggregate-write-all
 slice-aggregate-write-all c = search (cut-length, needs)
@@ -16,6 +16,5 @@ returns c = search needs
 returns-2 : tie.Need-returns-2
 returns-2 c = search needs
 
-pub print-line-spec : {M : Type 1} → statement M
-print-line-spec =
-    tie.close (tie.spec slice-aggregate-write-all write-all-requires returns returns-2)
+pub print-spec : {M : Type 1} → statement M
+print-spec = tie.close (tie.spec slice-aggregate-write-all write-all-requires returns returns-2)
