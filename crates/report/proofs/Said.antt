@@ -3,10 +3,8 @@ use mathlib.Core.Path.{_≡_, refl, sym, ap, _∙_}
 use mathlib.Core.List.{List, [], _∷_, _++_, append-assoc, append-nil}
 use Prim.Native.Nat.{ℕ, zero, suc, _+_, _*_, _-_, _/_, _≤_, _<_}
 use native.Mathlib.Omega.{arith}
-use lib.Dec.{eqb, ltb}
 use lib.ListN.{length, take, drop, length-append}
-use borrow.Author.Tests.{eq-eqb, ne-eqb, lt-ltb, le-ltb}
-use Rattle.base.specs.Pick.{pick}
+use borrow.Author.Tests.{eq-eqb, ne-eqb, le-ltb}
 use Rattle.base.specs.Run.{run}
 use Rattle.base.proofs.Cases.{by-eq}
 use Rattle.base.proofs.Picks.{pick-true, pick-false}

@@ -1,17 +1,15 @@
 -- The lines one behind the other in a buffer. Assumes nothing.
 use mathlib.Core.Path.{_≡_, refl, sym, ap, _∙_}
-use mathlib.Core.List.{List, [], _∷_, _++_, append-assoc, append-nil}
-use Prim.Native.Nat.{ℕ, _+_, _*_, _-_, _≤_, _<_}
+use mathlib.Core.List.{List, [], _++_, append-assoc, append-nil}
+use Prim.Native.Nat.{ℕ, _+_, _-_, _≤_, _<_}
 use native.Mathlib.Omega.{arith}
-use lib.Dec.{leb}
 use lib.ListN.{length, take, drop, length-append, length-drop}
 use lib.Seq.{take-at, drop-at, drop-drop}
 use borrow.Author.Tests.{le-leb, lt-leb}
-use Rattle.base.specs.Pick.{pick}
 use Rattle.base.specs.Run.{run}
 use Rattle.base.proofs.Picks.{pick-true, pick-false}
 use Rattle.base.proofs.Parts.{rest-part, rest-past}
-use Rattle.base.proofs.Runs.{run-zero, run-more}
+use Rattle.base.proofs.Runs.{run-more}
 use Rattle.rules.specs.declared.Survey.{Survey}
 use Rattle.report.specs.Printed.{lineAt, inRoom, Printed, textIn, Texted, Texting}
 

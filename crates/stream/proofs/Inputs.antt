@@ -2,24 +2,21 @@
 use mathlib.Core.Path.{_≡_, refl, sym, ap, _∙_}
 use mathlib.Core.Bool.{Bool, true, false}
 use mathlib.Core.List.{List, [], _∷_, _++_}
-use Prim.Native.Nat.{ℕ, zero, suc, _+_, _*_, _-_, _/_, _%_, _≤_, _<_, min}
+use Prim.Native.Nat.{ℕ, zero, suc, _+_, _*_, _/_, _%_, _≤_, _<_, min}
 use native.Mathlib.Nat.{div-add-mod, div-lt-iff-lt-mul, le-div-iff-mul-le, mod-lt, min-eq-left, min-eq-right, zero-min}
 use native.Mathlib.Omega.{arith}
-use lib.Dec.{eqb}
 use lib.ListN.{length, take, drop, getD, length-append, length-drop, List·getD-append}
 use lib.Seq.{length-take-le, take-append-le, drop-append-le, drop-at, take-all}
 use borrow.Author.Tests.{eq-eqb, ne-eqb, le-leb}
-use Rattle.base.specs.Pick.{pick}
 use Rattle.base.specs.Run.{run}
 use Rattle.base.specs.Bytes.{Byte}
 use Rattle.base.specs.Calls.{ExactlyOne}
 use Rattle.base.proofs.Cases.{by-eq, by-lt}
 use Rattle.base.proofs.Picks.{pick-true, pick-false}
-use Rattle.base.proofs.Runs.{run-zero, run-more, run-same, run-length-le}
+use Rattle.base.proofs.Runs.{run-zero, run-same, run-length-le}
 use Rattle.rules.specs.declared.System.{System}
-use Rattle.rules.specs.declared.System.the-variants.{I60, I50}
+use Rattle.rules.specs.declared.System.the-variants.{I50}
 use Rattle.rules.specs.declared.SystemNumber.the-variants.{Known}
-use Rattle.rules.specs.declared.Fault.{Fault}
 use Rattle.rules.specs.Systems.{sequencesOf}
 use Rattle.rules.specs.Blocks.{sequenceAt}
 use Rattle.rules.specs.Faults.{sequenceFaults}
@@ -28,11 +25,10 @@ use Rattle.rules.specs.Survey.{outsideSequences}
 use Rattle.rules.proofs.Systems.{sequences-some, sequences-le}
 use Rattle.rules.proofs.Faults.{sequence-faults-le}
 use Rattle.rules.proofs.Records.{noted-none, noted-turn}
-use Rattle.rules.proofs.Calls.{inside-means}
 use Rattle.noting.specs.Asked.{nextFaults}
 use Rattle.noting.proofs.Next.{next-inside, none-outside, none-length}
 use Rattle.stream.specs.declared.Reading.{Reading}
-use Rattle.stream.specs.Input.{ofRate, systemFrom, nthFaults, wholeIn, readFaults, countedTo, Read, nothing, systemAfter, nextSystem, faultsAfter, Next, Refilled}
+use Rattle.stream.specs.Input.{ofRate, systemFrom, nthFaults, readFaults, countedTo, Read, nothing, systemAfter, nextSystem, faultsAfter, Next, Refilled}
 
 -- ---- the count
 

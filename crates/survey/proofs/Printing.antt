@@ -1,6 +1,6 @@
 -- What is printed is what document 01 says of the bytes that the refills gave. Assumes nothing.
-use mathlib.Core.Path.{_≡_, refl, sym, ap, _∙_}
-use mathlib.Core.List.{List, [], _∷_, _++_}
+use mathlib.Core.Path.{_≡_, refl, sym, _∙_}
+use mathlib.Core.List.{List, [], _∷_}
 use Prim.Native.Nat.{ℕ, _*_, _/_, _<_}
 use native.Mathlib.Omega.{arith}
 use lib.ListN.{length}
@@ -17,10 +17,10 @@ use Rattle.text.proofs.Known.{known-refusal}
 use Rattle.report.specs.Printed.{refusalLine, surveyText, linesOf, textIn, Texted}
 use Rattle.report.proofs.Said.{lines-text}
 use Rattle.stream.specs.declared.Reading.{Reading}
-use Rattle.stream.specs.Input.{dsfIn, Read}
+use Rattle.stream.specs.Input.{dsfIn}
 use Rattle.verdict.specs.Length.{answerOf, Answered}
 use Rattle.verdict.proofs.Answers.{answered-is}
-use Rattle.survey.specs.Program.{bytesOf, Ended, inputText, Starts, Said}
+use Rattle.survey.specs.Program.{bytesOf, Ended, inputText, Said}
 
 module _ (list₀ buf list : List ℕ) (r : Reading) (room : length list₀ ≡ 256) (d : Ended list₀ buf list r) (y : System) (rate : rateOf y ≡ dsfIn (bytesOf (d .before) buf r)) where
   -- the lines are the text of the bytes that the refills gave, in every system of the first block's rate

@@ -1,6 +1,6 @@
 -- Known values, among them document 01's example: the line of a record and that of the totals. Assumes nothing.
 use mathlib.Core.Path.{_≡_, refl}
-use mathlib.Core.List.{List, [], _∷_}
+use mathlib.Core.List.{[], _∷_}
 use Rattle.base.specs.Pick.{pick}
 use Rattle.text.specs.Lines.{digitsIn, decimal, fieldsOf, lineOf}
 

@@ -1,16 +1,13 @@
 -- Pieces of a line that are written one behind the other. Assumes nothing.
 use mathlib.Core.Path.{_≡_, refl, sym, ap, _∙_}
-use mathlib.Core.Bool.{Bool, true, false, _&&_}
 use mathlib.Core.List.{List, [], _∷_, _++_, append-assoc, append-nil}
-use Prim.Native.Nat.{ℕ, zero, suc, _+_, _*_, _-_, _≤_, _<_}
+use Prim.Native.Nat.{ℕ, _+_, _≤_, _<_}
 use native.Mathlib.Nat.{zero-add}
 use native.Mathlib.Numerals.{add-one}
 use native.Mathlib.Omega.{arith}
-use lib.Dec.{leb}
 use lib.ListN.{length, take, drop, getD, set, length-append, length-drop, take-append-drop}
-use lib.Seq.{paste, paste-zero, paste-suc, take-suc, take-all, take-at, drop-at, drop-append-add, drop-drop, length-take-le, set-split}
+use lib.Seq.{paste, paste-suc, take-suc, take-all, take-at, drop-append-add, drop-drop, length-take-le, set-split}
 use borrow.Author.Tests.{le-leb, lt-leb}
-use Rattle.base.specs.Pick.{pick}
 use Rattle.base.proofs.Picks.{pick-true, pick-false}
 use Rattle.io.specs.Digits.{digits, Fewest}
 use Rattle.io.specs.Counts.{Counts}

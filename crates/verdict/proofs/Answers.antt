@@ -1,33 +1,27 @@
 -- What is answered of the bytes that were read. Assumes nothing.
 use mathlib.Core.Path.{_≡_, refl, sym, ap, _∙_}
-use mathlib.Core.Bool.{Bool, true, false}
-use mathlib.Core.List.{List, [], _∷_, _++_}
-use Prim.Native.Nat.{ℕ, zero, suc, _+_, _*_, _-_, _/_, _%_, _≤_, _<_, min}
-use native.Mathlib.Nat.{min-eq-left, min-eq-right}
+use mathlib.Core.List.{List}
+use Prim.Native.Nat.{ℕ, zero, suc, _+_, _*_, _/_, _≤_, _<_, min}
+use native.Mathlib.Nat.{min-eq-left}
 use native.Mathlib.Omega.{arith}
-use lib.Dec.{eqb}
 use lib.ListN.{length}
 use borrow.Author.Tests.{eq-eqb, ne-eqb}
-use Rattle.base.specs.Pick.{pick}
 use Rattle.base.specs.Calls.{ExactlyOne}
-use Rattle.base.specs.Run.{run}
 use Rattle.base.proofs.Cases.{by-eq, by-lt}
 use Rattle.base.proofs.Picks.{pick-true, pick-false}
 use Rattle.base.proofs.Runs.{run-rows}
 use Rattle.rules.specs.declared.System.{System}
-use Rattle.rules.specs.declared.System.the-variants.{I60, I50, P60, P50}
 use Rattle.rules.specs.declared.Survey.{Survey}
 use Rattle.rules.specs.Systems.{sequencesOf, rateOf, numberOfSystem}
 use Rattle.rules.specs.Faults.{partFaults, channelFaults, frameFaults}
-use Rattle.rules.specs.Records.{after}
 use Rattle.rules.specs.Noting.{Noted}
-use Rattle.rules.specs.Survey.{surveyNumber, surveyAnswer, refusal}
+use Rattle.rules.specs.Survey.{refusal}
 use Rattle.rules.proofs.Systems.{system-number, sequences-some, sequences-le, rate-sequences}
 use Rattle.rules.proofs.Faults.{faults-sequences}
 use Rattle.rules.proofs.Calls.{survey-0, survey-2, survey-done, survey-stopped, survey-taken}
 use Rattle.noting.specs.Asked.{tallied}
 use Rattle.stream.specs.declared.Reading.{Reading}
-use Rattle.stream.specs.Input.{ofRate, dsfIn, systemFrom, nthFaults, readFaults, Read}
+use Rattle.stream.specs.Input.{ofRate, dsfIn, systemFrom, readFaults, Read}
 use Rattle.stream.proofs.Inputs.{count-small, count-large}
 use Rattle.verdict.specs.declared.FrameLength.{FrameLength}
 use Rattle.verdict.specs.declared.FrameLength.the-variants.{Right, Wrong}
