@@ -20,7 +20,7 @@ use Rattle.stream.specs.declared.Reading.{Reading}
 use Rattle.stream.specs.Input.{dsfIn}
 use Rattle.verdict.specs.Length.{answerOf, Answered}
 use Rattle.verdict.proofs.Answers.{answered-is}
-use Rattle.survey.specs.Program.{bytesOf, Ended, inputText, Said}
+use Rattle.survey.specs.Program.{bytesOf, Ended, inputText, Said, Rooms, Surveyed}
 
 module _ (list₀ buf list : List ℕ) (r : Reading) (room : length list₀ ≡ 256) (d : Ended list₀ buf list r) (y : System) (rate : rateOf y ≡ dsfIn (bytesOf (d .before) buf r)) where
   -- the lines are the text of the bytes that the refills gave, in every system of the first block's rate
@@ -50,3 +50,6 @@ text-said r list out out′ s n a t =
           record { left = rw e at (t′ .left); count = rw e at (t′ .count) };
       texted = t′;
     }
+
+pub input-surveyed : (buf list text buf′ list′ text′ : List ℕ) (r : Reading) (n : ℕ) → Rooms buf list text → Ended list buf′ list′ r → Said r list′ text text′ n → Surveyed buf′ text text′ n
+input-surveyed buf list text buf′ list′ text′ r n a d t = record { before = d .before; last = r .last; says = λ y rate. t .says list buf′ (a .records) (a .lines) d y rate; ended = d .last }

@@ -47,3 +47,18 @@ pub record Said (r : Reading) (list out out′ : List ℕ) (n : ℕ) : Type 0 wh
   pub says : (list₀ buf : List ℕ) → length list₀ ≡ 256 → 4160 ≤ length out → (d : Ended list₀ buf list r) (y : System) → rateOf y ≡ dsfIn (bytesOf (d .before) buf r)
       → Starts (inputText y (bytesOf (d .before) buf r)) out out′ n
   pub texted : Texted (answerOf r (length list)) list out out′ n
+
+-- ---- the whole
+
+-- one sequence, 64 records, and their lines
+pub record Rooms (buf list text : List ℕ) : Type 0 where
+  pub sequence : length buf ≡ 12000
+  pub records : length list ≡ 256
+  pub lines : 4160 ≤ length text
+
+-- the refills gave bytes, of which buf still has the last, up to the input's end; text′ begins with what document 01 has printed of them, n bytes
+pub record Surveyed (buf text text′ : List ℕ) (n : ℕ) : Type 0 where
+  pub before : List ℕ
+  pub last : ℕ
+  pub says : (y : System) → rateOf y ≡ dsfIn (before ++ take last buf) → Starts (inputText y (before ++ take last buf)) text text′ n
+  pub ended : (last < 12000) ⊎ (12000 * 18446744073709551615 ≤ length (before ++ take last buf))

@@ -1,7 +1,7 @@
 // Surveys the frame on standard input, one sequence of 12,000 bytes at a time, and prints the first 64 faults and the totals.
 ghost use mathlib.Core.Path.{_≡_};
 ghost use lib.ListN.{length};
-ghost use Rattle.survey.specs.Program.{Ended, Said};
+ghost use Rattle.survey.specs.Program.{Ended, Said, Rooms, Surveyed};
 use layout::SEQUENCE;
 use stream::Reading;
 
@@ -31,6 +31,15 @@ fn text_of(r: Reading, list: &[u32], text: &mut [u8]) -> usize
     report::text(s, list, text)
 }
 
+// The survey of the input: text becomes what is to be printed, n bytes of it.
+fn survey(buf: &mut [u8], list: &mut [u32], text: &mut [u8]) -> usize
+    requires { ⌜ Rooms (now buf) (now list) (now text) ⌝ }
+    ensures { λ n. ⌜ Surveyed (now (buf .exit)) (now (text .entry)) (now (text .exit)) n ⌝ }
+{
+    let r = read_all(buf, list);
+    text_of(r, list, text)
+}
+
 fn print(text: &[u8], n: usize) {
     if n <= text.len() {
         io::write_all(1, &text[..n]);
@@ -42,7 +51,6 @@ fn main() {
     let mut buf = [0u8; SEQUENCE];
     let mut list = [0u32; 256];
     let mut text = [0u8; 4160];
-    let r = read_all(&mut buf, &mut list);
-    let n = text_of(r, &list, &mut text);
+    let n = survey(&mut buf, &mut list, &mut text);
     print(&text, n);
 }
