@@ -1,0 +1,3 @@
+pub mod Known
+pub mod Decimals
+pub mod Writing
