@@ -72,6 +72,7 @@ id-out {id} {o} {v} read said =
       values = λ z.
           let zero : idNumber id ≡ 0 = sym (ap (λ (x : IdValues). x .number) (said .answer) ∙ says-number id) ∙ z in
           said .answer ∙ pick-true _ _ (eq-eqb _ 0 zero) ∙ rw (channel-by (getD id 1 0)) refl;
+      same = read .says ∙ sym (said .answer);
     }
 
 -- ---- view, view_at
