@@ -215,6 +215,7 @@ in-numbers = record {
   faults = fault-is;
   hears = heard-is;
   words = λ z e. (word-is z e, back-is z e);
+  lends = λ count sound macroblocks time group. refl;
   slots = λ k y known h q g m hh hq hg hm. carried-is h q g m hg hm k y known hh hq;
   all-carried = slot-of;
 }
