@@ -40,7 +40,7 @@ use Rattle.rules.proofs.Answering.{every-call}
 use Rattle.rules.proofs.ReadingOut.{id-out, view-out, macroblock-out, read-out}
 use Rattle.rules.proofs.Deciding.{ids-decided, views-decided, macroblocks-decided, reads-decided}
 use Rattle.rules.proofs.WritingBack.{writes-back, strict-decided, frame-decided}
-use Rattle.rules.proofs.Listing.{survey-listed, sequence-listed}
+use Rattle.rules.proofs.Listing.{survey-listed, sequence-listed, same-listed}
 use Rattle.rules.proofs.Salvaging.{salvages, salvage-decided}
 use Rattle.rules.proofs.Worthless.{tone-taken, one-for-two, frame-for-two, all-lost}
 
@@ -137,6 +137,11 @@ demand-3-surveys = survey-listed
 pub demand-3-sequences : (k h q : ℕ) {sequence list list′ : List ℕ} {r : Survey} → SequenceSurveyed k h q sequence list r list′ → r .number ≡ 0
     → Listed (sequences k) sequence ((sequences k * h + q) * 150) 150 list r list′
 demand-3-sequences = sequence-listed
+
+-- "Salvage and survey give the same list, total and kept for the same frame."
+pub demand-3-same : (k : ℕ) {frame : List ℕ} {samples samples′ : List ℤ} {list list₁ list₂ : List ℕ} {r r′ : Survey}
+    → Salvaged k frame samples list r samples′ list₁ → FrameSurveyed k frame list r′ list₂ → r .number ≡ 0 → r′ .number ≡ 0 → (r ≡ r′) × (list₁ ≡ list₂)
+demand-3-same = same-listed
 
 -- ---- the premises can be met, for each system and count; and what the demands refute
 

@@ -8,7 +8,7 @@ use lib.Dec.{eqb, ltb}
 use lib.ListN.{length, replicate}
 use Rattle.base.specs.Pick.{pick}
 use Rattle.rules.specs.declared.Carried.the-variants.{Nothing}
-use Rattle.rules.specs.Paper.{sequences, positions, rate, stype, byteAt, bytesAt, sectionAt, numberAt, channelBits, soundWord, asPack, countSaid, vauxPlace, vauxByte, vsPack, ssybPlace, ssybByte, holdsTime, holdsGroup, slotPlace, carried}
+use Rattle.rules.specs.Paper.{sequences, positions, rate, stype, byteAt, bytesAt, sectionAt, numberAt, channelBits, soundWord, asPack, countSaid, vauxPlace, vauxByte, vsPack, holdsTime, holdsGroup, slotPlace, carried}
 use Rattle.rules.specs.Refusals.{OwnCount}
 
 -- m bytes of a block of system k, from its byte i on
