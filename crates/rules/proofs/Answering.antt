@@ -1,6 +1,6 @@
 -- The workshop of the first demand: each call has one outcome, the number that its table gives, and a refusal that writes nothing. Assumes nothing.
 use mathlib.Core.Path.{_≡_, refl, sym, ap, _∙_, subst}
-use mathlib.Core.List.{List}
+use mathlib.Core.List.{List, [], _∷_}
 use mathlib.Core.Logic.{_≢_}
 use Prim.Native.Nat.{ℕ}
 use native.Mathlib.Omega.{arith}
@@ -14,13 +14,15 @@ use Rattle.base.proofs.Picks.{pick-true}
 use Rattle.rules.specs.declared.System.{System}
 use Rattle.rules.specs.declared.SystemNumber.{SystemNumber}
 use Rattle.rules.specs.declared.SystemNumber.the-variants.{Known, NoSystem}
+use Rattle.rules.specs.declared.IdAnswer.{IdAnswer}
+use Rattle.rules.specs.declared.IdAnswer.the-variants.{Named, Reserved, WrongLength}
 use Rattle.rules.specs.declared.IdValues.{IdValues}
 use Rattle.rules.specs.declared.Fault.{Fault}
 use Rattle.rules.specs.declared.Survey.{Survey}
 use Rattle.rules.specs.declared.AudioAnswer.{AudioAnswer}
 use Rattle.rules.specs.declared.TimeAnswer.{TimeAnswer}
 use Rattle.rules.specs.Systems.{inSystem, systemOf}
-use Rattle.rules.specs.Ids.{idRefusal}
+use Rattle.rules.specs.Ids.{idRefusal, idValues}
 use Rattle.rules.specs.Blocks.{noPart}
 use Rattle.rules.specs.ReadId.{idNumber, idSays}
 use Rattle.rules.specs.Survey.{refusal, Surveyed}
@@ -104,62 +106,89 @@ module _ (k : ℕ) (frame : List ℕ) where
 
 -- a call that answers the number of its contract answers what its table gives, and the table gives no other
 answers : {Outcome : Type 0} {Meets : Outcome → Type 0} {answered : Outcome → ℕ} {table : Table} {Quiet : Outcome → Type 0} {due : ℕ} → ExactlyOne Outcome Meets
-    → Exactly table due → ((o : Outcome) → Meets o → answered o ≡ due) → ((o : Outcome) → Meets o → answered o ≢ 0 → Quiet o) → Answers Outcome Meets answered table Quiet
-answers {table = table} one exactly is quiet = record {
+    → Exactly table due → ((o : Outcome) → Meets o → answered o ≡ due) → ((o : Outcome) → Meets o → answered o ≢ 0 → Quiet o)
+    → ((o o′ : Outcome) → answered o ≢ 0 → answered o ≡ answered o′ → Quiet o → Quiet o′ → o ≡ o′) → Answers Outcome Meets answered table Quiet
+answers {table = table} one exactly is quiet told = record {
   one = one;
   numbered = λ o m. subst table (sym (is o m)) (exactly .gives);
   no-other = λ o m r given. exactly .only r given ∙ sym (is o m);
   refused = quiet;
+  told = told;
 }
+
+-- what a refusal is by its number is told by its number
+by-number : {Outcome : Type 0} (quiet : ℕ → Outcome) {r r′ : ℕ} {o o′ : Outcome} → r ≡ r′ → o ≡ quiet r → o′ ≡ quiet r′ → o ≡ o′
+by-number quiet e is is′ = is ∙ ap quiet e ∙ sym is′
+
+-- an answer to an ID that refuses is told by its number
+id-told : (o o′ : IdAnswer) → idValues o .number ≢ 0 → idValues o .number ≡ idValues o′ .number → o ≡ o′
+id-told (Named b) o′ d e = absurd (d refl)
+id-told Reserved (Named b) d e = absurd (omega (arith, e))
+id-told Reserved Reserved d e = refl
+id-told Reserved WrongLength d e = absurd (omega (arith, e))
+id-told WrongLength (Named b) d e = absurd (omega (arith, e))
+id-told WrongLength Reserved d e = absurd (omega (arith, e))
+id-told WrongLength WrongLength d e = refl
 
 pub every-call : EveryCall
 every-call = record {
   read-id = λ id.
       answers (read-id-one id) (id-exactly id)
       (λ o m. ap (λ (v : IdValues). v .number) (m .says) ∙ says-number id)
-      (λ o m d. rw (m .says) (says-quiet id (λ z. d (ap (λ (v : IdValues). v .number) (m .says) ∙ z))));
+      (λ o m d. rw (m .says) (says-quiet id (λ z. d (ap (λ (v : IdValues). v .number) (m .says) ∙ z))))
+      (λ o o′ d e q q′. id-told o o′ d e);
   id-values = λ id.
       answers (id-said-one id) (id-exactly id)
       (λ o m. ap (λ (v : IdValues). v .number) (m .answer) ∙ says-number id)
-      (λ o m d. rw (m .answer) (says-quiet id (λ z. d (ap (λ (v : IdValues). v .number) (m .answer) ∙ z))));
+      (λ o m d. rw (m .answer) (says-quiet id (λ z. d (ap (λ (v : IdValues). v .number) (m .answer) ∙ z))))
+      (λ o o′ d e. by-number (λ r. record { number = r; section = 0; channel = 0; dseq = 0; dbn = 0 }) e);
   survey = λ k frame list.
       answers (survey-frame-one k frame list) (survey-exactly k (length frame))
       (λ o m. survey-number m)
-      (λ o m d i. (survey-quiet m d .0 i, survey-quiet m d .1 i));
+      (λ o m d i. (survey-quiet m d .0 i, survey-quiet m d .1 i))
+      (λ o o′ d e. by-number (λ r. (record { number = r; total = 0; kept = 0 }, list)) e);
   survey-sequence = λ k h q sequence list.
       answers (survey-sequence-one k h q sequence list) (sequence-exactly k h q (length sequence))
       (λ o m. survey-number m)
-      (λ o m d i. (survey-quiet m d .0 i, survey-quiet m d .1 i));
+      (λ o m d i. (survey-quiet m d .0 i, survey-quiet m d .1 i))
+      (λ o o′ d e. by-number (λ r. (record { number = r; total = 0; kept = 0 }, list)) e);
   view = λ k frame h q p.
       answers (pair-one (view-number-one k frame h q p) (view-one k frame h q p)) (view-exactly k frame h q p)
       (λ o m. m .0 .answer)
-      (λ o m d. m .1 .answer ∙ view-refused k frame h q p (λ z. d (m .0 .answer ∙ z)));
+      (λ o m d. m .1 .answer ∙ view-refused k frame h q p (λ z. d (m .0 .answer ∙ z)))
+      (λ o o′ d e q q′ i. (e i, (q ∙ sym q′) i));
   view-at = λ k frame h q p.
       answers (view-lies-one k frame h q p) (view-exactly k frame h q p)
       (λ o m. view-lies-number k frame h q p m)
-      (λ o m d. let e = view-lies-number k frame h q p m in view-lies-refused k frame h q p m (λ z. d (e ∙ z)) ∙ ap noPart (sym e));
-  check-frame = λ k frame. answers (check-frame-one k frame) (check-exactly k frame) (λ o m. m .answer) (λ o m d. tt);
+      (λ o m d. let e = view-lies-number k frame h q p m in view-lies-refused k frame h q p m (λ z. d (e ∙ z)) ∙ ap noPart (sym e))
+      (λ o o′ d e. by-number (λ r. record { number = r; start = 0; length = 0 }) e);
+  check-frame = λ k frame. answers (check-frame-one k frame) (check-exactly k frame) (λ o m. m .answer) (λ o m d. tt) (λ o o′ d e q q′. e);
   read-audio = λ k frame c samples.
       answers (read-audio-one k frame c samples) (audio-exactly k frame c (length samples))
       (λ o m. audio-number k frame c samples m)
-      (λ o m d i. (audio-quiet k frame c samples m d .0 i, audio-quiet k frame c samples m d .1 i));
+      (λ o m d i. (audio-quiet k frame c samples m d .0 i, audio-quiet k frame c samples m d .1 i))
+      (λ o o′ d e. by-number (λ r. (record { number = r; count = 0 }, samples)) e);
   macroblock = λ k frame b.
       answers (pair-one (macroblock-number-one k frame b) (macroblock-one k frame b)) (macroblock-exactly k frame b)
       (λ o m. m .0 .answer)
-      (λ o m d. m .1 .answer ∙ macroblock-refused k frame b (λ z. d (m .0 .answer ∙ z)));
+      (λ o m d. m .1 .answer ∙ macroblock-refused k frame b (λ z. d (m .0 .answer ∙ z)))
+      (λ o o′ d e q q′ i. (e i, (q ∙ sym q′) i));
   macroblock-at = λ k frame b.
       answers (macroblock-lies-one k frame b) (macroblock-exactly k frame b)
       (λ o m. macroblock-lies-number k frame b m)
-      (λ o m d. let e = macroblock-lies-number k frame b m in macroblock-lies-refused k frame b m (λ z. d (e ∙ z)) ∙ ap noPart (sym e));
+      (λ o m d. let e = macroblock-lies-number k frame b m in macroblock-lies-refused k frame b m (λ z. d (e ∙ z)) ∙ ap noPart (sym e))
+      (λ o o′ d e. by-number (λ r. record { number = r; start = 0; length = 0 }) e);
   read-time = λ k frame.
       answers (read-time-one k frame) (time-exactly k frame)
       (λ o m. time-number k frame m)
-      (λ o m d. time-refused k frame m (λ z. d (time-number k frame m ∙ z)) ∙ ap timeRefused (sym (time-number k frame m)));
+      (λ o m d. time-refused k frame m (λ z. d (time-number k frame m ∙ z)) ∙ ap timeRefused (sym (time-number k frame m)))
+      (λ o o′ d e. by-number (λ r. record { number = r; time = 0 ∷ 0 ∷ 0 ∷ 0 ∷ []; group = 0 ∷ 0 ∷ 0 ∷ 0 ∷ [] }) e);
   salvage = λ k frame samples list.
       answers (salvage-one k frame samples list) (salvage-exactly k frame (length samples))
       (λ o m. survey-number (m .survey))
       (λ o m d i.
       let v = survey-quiet (m .survey) d in
-      (v .0 i, salvage-refused m (λ z. d (survey-number (m .survey) ∙ z)) .1 i, v .1 i));
-  write-frame = λ k l frame. answers (write-frame-one k l frame) (write-exactly k l (length frame)) (λ o m. m .answer) (λ o m d. write-refused m d);
+      (v .0 i, salvage-refused m (λ z. d (survey-number (m .survey) ∙ z)) .1 i, v .1 i))
+      (λ o o′ d e. by-number (λ r. (record { number = r; total = 0; kept = 0 }, samples, list)) e);
+  write-frame = λ k l frame. answers (write-frame-one k l frame) (write-exactly k l (length frame)) (λ o m. m .answer) (λ o m d. write-refused m d) (λ o o′ d e q q′ i. (e i, (q ∙ sym q′) i));
 }

@@ -1,12 +1,18 @@
 -- The demands are met, of any answer that the contracts of the public calls allow. Each theorem cites its workshop; what it says is in
 -- `specs/Demand1`, `Demand2` and `Demand3`, in document 01's own numbers and bytes (`Paper`, `Refusals`, `Form`); the known places, the printed rows
 -- and what the definitions are in those numbers in `Known`, `Rows` and `Numbers`. Assumes nothing.
-use mathlib.Core.Path.{_≡_}
-use mathlib.Core.List.{List}
+use mathlib.Core.Path.{_≡_, refl, sym, _∙_}
+use mathlib.Core.Bool.{true, false}
+use mathlib.Core.List.{List, [], _∷_, _++_}
 use Prim.Native.Nat.{ℕ, _+_, _*_, _<_}
 use lib.Dec.{T}
 use lib.IntN.{ℤ, pos}
 use lib.ListN.{length}
+use Rattle.base.specs.Pick.{pick}
+use Rattle.base.specs.Run.{run}
+use Rattle.base.specs.Calls.{Refusal, firstOf, _when_, ExactlyOne}
+use Rattle.base.proofs.Picks.{pick-true, pick-false, first-here, first-next}
+use Rattle.base.proofs.Runs.{run-zero, run-more}
 use Rattle.rules.specs.declared.Place.{Place}
 use Rattle.rules.specs.declared.IdAnswer.{IdAnswer}
 use Rattle.rules.specs.declared.IdValues.{IdValues}
@@ -25,15 +31,16 @@ use Rattle.rules.specs.Paper.{sequences, positions, macroblocks, faultOf
 use Rattle.rules.specs.Refusals.{OwnCount}
 use Rattle.rules.specs.Numbers.{InNumbers}
 use Rattle.rules.specs.Demand1.{EveryCall}
-use Rattle.rules.specs.Demand2.{IdOut, ViewOut, MacroblockOut, Strict, StrictlyRead, ReadOut, LaidOut, ReadsBack, WritesBack, tone}
+use Rattle.rules.specs.Demand2.{IdOut, ViewOut, MacroblockOut, Strict, StrictlyRead, ReadOut, GoesThrough, LaidOut, ReadsBack, WritesBack, tone}
 use Rattle.rules.specs.Demand3.{SampleSalvaged, Listed, Salvages}
 use Rattle.rules.proofs.Picture.{rows-agree}
 use Rattle.rules.proofs.Known.{table-agrees}
 use Rattle.rules.proofs.Numbers.{in-numbers}
 use Rattle.rules.proofs.Answering.{every-call}
 use Rattle.rules.proofs.ReadingOut.{id-out, view-out, macroblock-out, read-out}
+use Rattle.rules.proofs.Deciding.{ids-decided, views-decided, macroblocks-decided, reads-decided}
 use Rattle.rules.proofs.WritingBack.{writes-back, strict-decided, frame-decided}
-use Rattle.rules.proofs.Listing.{survey-listed, sequence-listed}
+use Rattle.rules.proofs.Listing.{survey-listed, sequence-listed, same-listed}
 use Rattle.rules.proofs.Salvaging.{salvages, salvage-decided}
 use Rattle.rules.proofs.Worthless.{coasting, tone-taken, one-for-two, frame-for-two, all-lost}
 
@@ -48,25 +55,54 @@ printed-rows = rows-agree
 pub rules-in-numbers : InNumbers
 rules-in-numbers = in-numbers
 
+-- the words of `base` in the statements: one of two by a test, the first row that holds, part after part, one outcome
+pub picks : {A : Type 0} (a b : A) → (pick true a b ≡ a) × (pick false a b ≡ b)
+picks a b = (pick-true a b refl, pick-false a b refl)
+
+pub firsts : (k : ℕ) (rows : List Refusal) → (firstOf [] ≡ 0) × (firstOf (k when true ∷ rows) ≡ k) × (firstOf (k when false ∷ rows) ≡ firstOf rows)
+unfolding firstOf
+firsts k rows = (refl, first-here true k rows refl, first-next false k rows refl)
+
+pub runs : {A : Type 0} (f : ℕ → List A) (m : ℕ) → (run f 0 ≡ []) × (run f (m + 1) ≡ run f m ++ f m)
+runs f m = (run-zero f, run-more f m)
+
+pub exactly-one : {A : Type 0} {P : A → Type 0} (one : ExactlyOne A P) → P (one .outcome) × ((o o′ : A) → P o → P o′ → o ≡ o′)
+exactly-one one = (one .meets, λ o o′ m m′. one .only o m ∙ sym (one .only o′ m′))
+
 -- ---- 1: every public call, on every input
 
 pub demand-1 : EveryCall
 demand-1 = every-call
 
--- ---- 2: whatever is read
+-- ---- 2: whatever is read; and whatever is read out so is what our reads answer
 
 pub demand-2-ids : {id : List ℕ} {o : IdAnswer} {v : IdValues} → IdRead id o → IdSaid id v → IdOut id o v
 demand-2-ids = id-out
+
+pub demand-2-ids-decide : {id : List ℕ} {o o′ : IdAnswer} {v v′ : IdValues} → IdRead id o → IdSaid id v → IdOut id o′ v′ → (o′ ≡ o) × (v′ ≡ v)
+demand-2-ids-decide = ids-decided
 
 pub demand-2-views : {k : ℕ} {f : List ℕ} {h q : ℕ} {p : Place} {number : ℕ} {part : List ℕ} {r : Part} → ViewNumbered k f h q p number
     → Viewed k f h q p part → ViewLies k f h q p r → ViewOut k f h q p number part r
 demand-2-views = view-out
 
+pub demand-2-views-decide : {k : ℕ} {f : List ℕ} {h q : ℕ} {p : Place} {part part′ : List ℕ} {r r′ : Part} → ViewNumbered k f h q p 0
+    → Viewed k f h q p part → ViewLies k f h q p r → r′ .number ≡ 0 → ViewOut k f h q p 0 part′ r′ → (part′ ≡ part) × (r′ ≡ r)
+demand-2-views-decide = views-decided
+
 pub demand-2-macroblocks : {k : ℕ} {f : List ℕ} {b : ℕ} {r : Part} → MacroblockLies k f b r → MacroblockOut k f b r
 demand-2-macroblocks = macroblock-out
 
+pub demand-2-macroblocks-decide : {k : ℕ} {f : List ℕ} {b : ℕ} {r r′ : Part} → MacroblockLies k f b r → r .number ≡ 0 → r′ .number ≡ 0
+    → MacroblockOut k f b r′ → r′ ≡ r
+demand-2-macroblocks-decide = macroblocks-decided
+
 pub demand-2-reads : {k : ℕ} {f : List ℕ} {c : ℕ} {samples : List ℤ} {b : ℕ} {o : Strict} → StrictlyRead k f c samples b o → ReadOut k f c samples b o
 demand-2-reads = read-out
+
+pub demand-2-reads-decide : {k : ℕ} {f : List ℕ} {c : ℕ} {samples : List ℤ} {b : ℕ} {o o′ : Strict} → StrictlyRead k f c samples b o → GoesThrough o
+    → GoesThrough o′ → ReadOut k f c samples b o′ → o′ ≡ o
+demand-2-reads-decide = reads-decided
 
 -- f is a frame that our writer made of l
 module _ {k : ℕ} {l : Lent} {frame f : List ℕ} (wrote : Wrote k l frame 0 f) where
@@ -101,6 +137,11 @@ demand-3-surveys = survey-listed
 pub demand-3-sequences : (k h q : ℕ) {sequence list list′ : List ℕ} {r : Survey} → SequenceSurveyed k h q sequence list r list′ → r .number ≡ 0
     → Listed (sequences k) sequence ((sequences k * h + q) * 150) 150 list r list′
 demand-3-sequences = sequence-listed
+
+-- "Salvage and survey give the same list, total and kept for the same frame."
+pub demand-3-same : (k : ℕ) {frame : List ℕ} {samples samples′ : List ℤ} {list list₁ list₂ : List ℕ} {r r′ : Survey}
+    → Salvaged k frame samples list r samples′ list₁ → FrameSurveyed k frame list r′ list₂ → r .number ≡ 0 → r′ .number ≡ 0 → (r ≡ r′) × (list₁ ≡ list₂)
+demand-3-same = same-listed
 
 -- a survey that counts none has seen every block name its place
 pub not-coasting : {n first m : ℕ} {bytes list list′ : List ℕ} {r : Survey} → Listed n bytes first m list r list′ → r .total ≡ 0 → (j : ℕ) → j < m

@@ -41,4 +41,5 @@ pub mod Templates
 pub mod Form
 pub mod Salvaging
 pub mod Worthless
+pub mod Deciding
 pub mod Demands

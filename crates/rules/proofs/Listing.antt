@@ -126,7 +126,7 @@ sequence-listed k h q {sequence} s z =
     (λ whole. rw (columns k y known .sequences-is) (lists s zero (sequence-records y h q (inside-means y h q o .1) sequence whole)))
     (λ d. absurd (omega (arith, zero, sequence-4 k h q (length sequence) y known o d)))))
 
--- "Salvage and survey give the same list, total and kept for the same frame."
+-- and beside the samples
 pub salvage-listed : (k : ℕ) {frame : List ℕ} {samples samples′ : List ℤ} {list list′ : List ℕ} {r : Survey}
     → Salvaged k frame samples list r samples′ list′ → r .number ≡ 0 → Listed (sequences k) frame 0 (600 * sequences k) list r list′
 salvage-listed k {frame} {samples} s z =
@@ -150,3 +150,8 @@ module _ {n first m : ℕ} {bytes list list₁ list₂ : List ℕ} {r r′ : Sur
     λ i. record { number = number i; total = total-one i; kept = kept-one i },
     a .listed ∙ ap (λ (j : ℕ). take (4 * j) (records n bytes first m) ++ drop (4 * j) list) kept-one ∙ sym (b .listed),
   )
+
+-- "Salvage and survey give the same list, total and kept for the same frame."
+pub same-listed : (k : ℕ) {frame : List ℕ} {samples samples′ : List ℤ} {list list₁ list₂ : List ℕ} {r r′ : Survey}
+    → Salvaged k frame samples list r samples′ list₁ → FrameSurveyed k frame list r′ list₂ → r .number ≡ 0 → r′ .number ≡ 0 → (r ≡ r′) × (list₁ ≡ list₂)
+same-listed k s s′ z z′ = listed-one (salvage-listed k s z) (survey-listed k s′ z′) (z ∙ sym z′)

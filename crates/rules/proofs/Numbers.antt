@@ -158,7 +158,7 @@ module _ (h q g m : ℕ) (hg : g < 27) (hm : m < 5) where
   carried-is k P50 known hh hq = within-there tenCarries (slot h q (5 * g + m)) hh (omega arith) ∙ ten-is ∙ rw (number-known k P50 known) refl
 
 -- every macroblock of the system has its slot
-slot-of : (k b : ℕ) → b < macroblocks k → SlotOf k b
+pub slot-of : (k b : ℕ) → b < macroblocks k → SlotOf k b
 slot-of k b hb =
     by-lt k 4
     (λ l.
@@ -215,6 +215,7 @@ in-numbers = record {
   faults = fault-is;
   hears = heard-is;
   words = λ z e. (word-is z e, back-is z e);
+  lends = λ count sound macroblocks time group. refl;
   slots = λ k y known h q g m hh hq hg hm. carried-is h q g m hg hm k y known hh hq;
   all-carried = slot-of;
 }

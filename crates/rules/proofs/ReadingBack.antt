@@ -110,18 +110,22 @@ module _ (y : System) (l : Lent) (size : ℕ) (t : Takes y l size) where
 
 -- ---- ReadsBack: what meets it is the answer
 
+-- two lists are one, below a count and from it on
+pub lists-one : (count : ℕ) {xs ys : List ℤ} → length xs ≡ length ys → ((t : ℕ) → t < count → getD xs t (pos 0) ≡ getD ys t (pos 0))
+    → drop count xs ≡ drop count ys → xs ≡ ys
+lists-one count {xs} {ys} size first rest =
+    ext-getD (pos 0) xs ys size (λ i h.
+    by-lt i count (first i) (λ above.
+    let e : count + (i - count) ≡ i = omega arith in
+    subst (λ (j : ℕ). getD xs j (pos 0) ≡ getD ys j (pos 0)) e
+    (sym (getD-drop count xs (i - count) (pos 0))
+    ∙ ap (λ (zs : List ℤ). getD zs (i - count) (pos 0)) rest
+    ∙ getD-drop count ys (i - count) (pos 0))))
+
 pub one-answer : {l : Lent} {c : ℕ} {samples : List ℤ} {b : ℕ} {o o′ : Strict} → ReadsBack l c samples b o → ReadsBack l c samples b o′ → o ≡ o′
 one-answer {l} {c} {samples} {b} {o} {o′} m m′ =
     let same : o .samples ≡ o′ .samples =
-    ext-getD (pos 0) (o .samples) (o′ .samples) (m .size ∙ sym (m′ .size)) (λ i h.
-    by-lt i (l .count)
-    (λ below. m .sample i below ∙ sym (m′ .sample i below))
-    (λ above.
-    let e : l .count + (i - l .count) ≡ i = omega arith in
-    subst (λ (j : ℕ). getD (o .samples) j (pos 0) ≡ getD (o′ .samples) j (pos 0)) e
-    (sym (getD-drop (l .count) (o .samples) (i - l .count) (pos 0))
-    ∙ ap (λ (xs : List ℤ). getD xs (i - l .count) (pos 0)) (m .rest ∙ sym (m′ .rest))
-    ∙ getD-drop (l .count) (o′ .samples) (i - l .count) (pos 0)))) in
+    lists-one (l .count) (m .size ∙ sym (m′ .size)) (λ t h. m .sample t h ∙ sym (m′ .sample t h)) (m .rest ∙ sym (m′ .rest)) in
     λ i. record {
       check = (m .check ∙ sym (m′ .check)) i;
       audio = (m .audio ∙ sym (m′ .audio)) i;

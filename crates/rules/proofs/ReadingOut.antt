@@ -70,6 +70,7 @@ id-out {id} {o} {v} read said =
       values = λ z.
           let zero : idNumber id ≡ 0 = sym (ap (λ (x : IdValues). x .number) (said .answer) ∙ says-number id) ∙ z in
           said .answer ∙ pick-true _ _ (eq-eqb _ 0 zero) ∙ rw (channel-by (getD id 1 0)) refl;
+      same = read .says ∙ sym (said .answer);
     }
 
 -- ---- view, view_at
@@ -215,7 +216,7 @@ read-out {k} {f} {c} {samples} {b} {o} read =
       count = λ z. by-audio (read .audio) (audio z) (λ y known. count-is (read .audio) y known (audio z) ∙ count-first k y known f c);
       sample = λ z t h.
           by-audio (read .audio) (audio z) (λ y known.
-          sample-out (read .audio) y known (audio z) t h ∙ rw (columns k y known .sequences-is) refl);
+          sample-out (read .audio) y known (audio z) t (omega (arith, h)) ∙ rw (columns k y known .sequences-is) refl);
       rest = λ z. by-audio (read .audio) (audio z) (λ y known. rest-out (read .audio) y known (audio z));
       size = length-out (read .audio);
       macroblock = λ z h q g m hh hq hg hm e. part-out k f b (sym (read .number .answer) ∙ z) h q g m hh hq hg hm e (read .part);

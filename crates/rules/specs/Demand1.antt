@@ -37,6 +37,8 @@ pub record Answers (Outcome : Type 0) (Meets : Outcome → Type 0) (answered : O
   pub no-other : (o : Outcome) → Meets o → (r : ℕ) → table r → r ≡ answered o
   -- "A refusal leaves all output buffers as they came in", and answers zeros and an empty part beside its number
   pub refused : (o : Outcome) → Meets o → answered o ≢ 0 → Quiet o
+  -- so that its number tells the whole of it
+  pub told : (o o′ : Outcome) → answered o ≢ 0 → answered o ≡ answered o′ → Quiet o → Quiet o′ → o ≡ o′
 
 -- "No call relies on checks made earlier by somebody else": nothing is asked of any input
 pub record EveryCall : Type 0 where

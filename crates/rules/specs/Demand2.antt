@@ -17,6 +17,7 @@ use Rattle.rules.specs.declared.Part.{Part}
 use Rattle.rules.specs.declared.AudioAnswer.{AudioAnswer}
 use Rattle.rules.specs.declared.TimeAnswer.{TimeAnswer}
 use Rattle.rules.specs.declared.Carried.the-variants.{Macroblock}
+use Rattle.rules.specs.Ids.{idValues}
 use Rattle.rules.specs.Check.{Checked}
 use Rattle.rules.specs.Audio.{AudioRead}
 use Rattle.rules.specs.Macroblock.{MacroblockNumbered, MacroblockRead}
@@ -41,6 +42,7 @@ pub record IdOut (id : List ℕ) (o : IdAnswer) (v : IdValues) : Type 0 where
       })
   pub values : v .number ≡ 0
       → v ≡ record { number = 0; section = getD id 0 0 / 32; channel = channelBy (getD id 1 0 / 4 % 4); dseq = getD id 1 0 / 16; dbn = getD id 2 0 }
+  pub same : idValues o ≡ v
 
 -- a block view: the number with its part, and the same by start and length
 pub record ViewOut (k : ℕ) (f : List ℕ) (h q : ℕ) (p : Place) (number : ℕ) (part : List ℕ) (r : Part) : Type 0 where
@@ -85,6 +87,13 @@ pub record ReadOut (k : ℕ) (f : List ℕ) (c : ℕ) (samples : List ℤ) (b : 
   -- SSYB 3 and 4 of DIF channel 0, sequence 0, in SC0: their packs stand from bytes 30 and 38 on
   pub time : o .time .number ≡ 0 → o .time .time ≡ answered k (byteAt (sequences k) f 0 0 1 31) ∷ bytesAt (sequences k) f 0 0 1 32 3
   pub group : o .time .number ≡ 0 → o .time .group ≡ bytesAt (sequences k) f 0 0 1 39 4
+
+-- all of them go through
+pub record GoesThrough (o : Strict) : Type 0 where
+  pub check : o .check ≡ 0
+  pub audio : o .audio .number ≡ 0
+  pub number : o .number ≡ 0
+  pub time : o .time .number ≡ 0
 
 -- ---- "Frames are .. written" so: the frame f that is made of l
 

@@ -21,6 +21,7 @@ use Rattle.rules.specs.Picture.{slot, carriedIn}
 use Rattle.rules.specs.Faults.{faultAt, NamesPlace}
 use Rattle.rules.specs.Stream.{named}
 use Rattle.rules.specs.Reading.{soundBlock, soundNamed}
+use Rattle.rules.specs.Write.{lent}
 use Rattle.rules.specs.Paper
 use Rattle.rules.specs.Paper.{sequences, macroblocks, figure3, fault, heard, carried}
 
@@ -67,6 +68,10 @@ pub record InNumbers : Type 0 where
   -- "Word 8000h is lost; a level of -32,768 is written 8001h", and comes back as -32,767
   pub hears : (w : ℕ) → numberOf (sampleOf w) ≡ heard w
   pub words : (z : ℤ) → inRange z ≡ true → (wordFor z ≡ Paper.wordOf z) × (backOf z ≡ Paper.back z)
+  -- what the writer is lent, by its parameters in their order
+  pub lends : (count : ℕ) (sound : List ℤ) (macroblocks time group : List ℕ)
+      → lent count sound macroblocks time group
+      ≡ record { count = count; sound = sound; macroblocks = macroblocks; timeCode = time; binaryGroup = group }
   -- what the slot V(5g+m) carries, and that every macroblock of the system has its slot
   pub slots : (k : ℕ) (y : System) → systemOf k ≡ Known y → (h q g m : ℕ) → h < 4 → q < sequencesOf y → g < 27 → m < 5
       → carriedIn y (slot h q (5 * g + m)) ≡ carried k h q g m

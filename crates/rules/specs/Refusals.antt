@@ -23,7 +23,7 @@ infix 68 _if_
 abbrev pub _if_ : ℕ → Type 0 → Table
 _if_ number Holds r = (r ≡ number) × Holds
 
--- what a row gives; and where it gives nothing, what the rows behind it give
+-- what a row gives; and where it gives nothing, what the rows behind it give: "Lower numbers come first"
 infixr 60 _else_
 abbrev pub _else_ : Table → Table → Table
 _else_ row rows r = row r ⊎ (((s : ℕ) → row s → ⊥) × rows r)
@@ -154,7 +154,8 @@ pub record SomeOutside (sound : List ℤ) : Type 0 where
   pub within : i < length sound
   pub outside : Outside (getD sound i (pos 0))
 
--- ---- call by call
+-- ---- call by call: 1 "system above 3", 2 "frame length is not 48,000·n", 3 "channel, sequence, place, macroblock number or sample count outside the system",
+-- 4 "another lent buffer's length is wrong (the fault list may have any length)"
 
 -- "an ID read 4 and 11": "an ID 3 bytes"; "5-7 reserved"
 abbrev pub idTable : List ℕ → Table
@@ -164,10 +165,11 @@ idTable id = 4 if (length id ≢ 3) else 11 if (5 ≤ getD id 0 0 / 32) else non
 abbrev pub surveyTable : ℕ → ℕ → Table
 surveyTable k size = 1 if (3 < k) else 2 if (size ≢ 48000 * sequences k) else none
 
+-- "salvage, eight times the positions"
 abbrev pub salvageTable : ℕ → ℕ → ℕ → Table
 salvageTable k size room = 1 if (3 < k) else 2 if (size ≢ 48000 * sequences k) else 4 if (room ≢ 8 * positions k) else none
 
--- "a sequence survey 1, 3, 4"
+-- "a sequence survey 1, 3, 4": "a surveyed sequence 12,000"
 abbrev pub sequenceTable : ℕ → ℕ → ℕ → ℕ → Table
 sequenceTable k h q size = 1 if (3 < k) else 3 if ((4 ≤ h) ⊎ (sequences k ≤ q)) else 4 if (size ≢ 12000) else none
 
@@ -187,7 +189,7 @@ checked k f rows = FirstFault (sequences k) f else 21 if Some (sequences k) (Wro
 abbrev pub checkTable : ℕ → List ℕ → Table
 checkTable k f = 1 if (3 < k) else 2 if (length f ≢ 48000 * sequences k) else checked k f none
 
--- "audio read adds 23-25"
+-- "audio read adds 23-25": "audio read, the system's positions"
 abbrev pub audioTable : ℕ → List ℕ → ℕ → ℕ → Table
 audioTable k f c room =
     1 if (3 < k)
