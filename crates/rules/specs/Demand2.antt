@@ -19,6 +19,7 @@ use Rattle.rules.specs.declared.Part.{Part}
 use Rattle.rules.specs.declared.AudioAnswer.{AudioAnswer}
 use Rattle.rules.specs.declared.TimeAnswer.{TimeAnswer}
 use Rattle.rules.specs.declared.Carried.the-variants.{Macroblock}
+use Rattle.rules.specs.Ids.{idValues}
 use Rattle.rules.specs.Check.{Checked}
 use Rattle.rules.specs.Audio.{AudioRead}
 use Rattle.rules.specs.Macroblock.{MacroblockNumbered, MacroblockRead}
@@ -40,6 +41,7 @@ pub record IdOut (id : List ℕ) (o : IdAnswer) (v : IdValues) : Type 0 where
         dseq = getD id 1 0 / 16;
         dbn = record { 0 = getD id 2 0 };
       })
+  pub same : idValues o ≡ v
   pub values : v .number ≡ 0
       → v ≡ record { number = 0; section = getD id 0 0 / 32; channel = channelBy (getD id 1 0 / 4 % 4); dseq = getD id 1 0 / 16; dbn = getD id 2 0 }
 

@@ -11,23 +11,31 @@ use Rattle.rules.specs.declared.System.{System}
 use Rattle.rules.specs.declared.System.the-variants.{I60, I50, P60, P50}
 use Rattle.rules.specs.declared.SystemNumber.the-variants.{Known, NoSystem}
 use Rattle.rules.specs.declared.Carried.the-variants.{Macroblock}
+use Rattle.rules.specs.declared.Carrier.the-variants.{In, NoSlot}
+use Rattle.rules.specs.declared.Slot.{Slot}
+use Rattle.rules.specs.declared.Section.{Section}
+use Rattle.rules.specs.declared.BlockNumber.{BlockNumber}
+use Rattle.rules.specs.declared.Place.{Place}
+use Rattle.rules.specs.declared.Entry.{Entry}
+use Rattle.rules.specs.declared.Found.the-variants.{At}
 use Rattle.rules.specs.declared.Section.the-variants.{Header, Subcode, Vaux, Audio, Video}
-use Rattle.rules.specs.Systems.{sequencesOf, halfOf, positionsOf, isCount, macroblocksOf, systemOf}
-use Rattle.rules.specs.Places.{codeOf, sectionOf, place, entryAt}
+use Rattle.rules.specs.Systems.{sequencesOf, halfOf, positionsOf, countsOf, isCount, macroblocksOf, systemOf}
+use Rattle.rules.specs.Places.{codeOf, sectionOf, place, entryAt, placeFor, placeOf}
 use Rattle.rules.specs.Ids.{channelOf}
 use Rattle.rules.specs.Samples.{numberOf, inRange, sampleOf, wordFor, backOf}
 use Rattle.rules.specs.Sound.{byteOf}
-use Rattle.rules.specs.Picture.{slot, carriedIn}
+use Rattle.rules.specs.Picture.{slot, carriedIn, carrierOf}
 use Rattle.rules.specs.Faults.{faultAt, NamesPlace}
 use Rattle.rules.specs.Stream.{named}
 use Rattle.rules.specs.Reading.{soundBlock, soundNamed}
+use Rattle.rules.specs.Write.{lent}
 use Rattle.rules.specs.Paper
 use Rattle.rules.specs.Paper.{sequences, macroblocks, figure3, fault, heard, carried}
 
--- a row of the table of systems
-pub record Numbers (k : ℕ) (y : System) (n positions count : ℕ) : Type 0 where
+-- a row of the table of systems, with its two sample counts
+pub record Numbers (k : ℕ) (y : System) (n positions fewer more count : ℕ) : Type 0 where
   pub system : systemOf k ≡ Known y
-  pub numbers : (sequencesOf y ≡ n) × (positionsOf y ≡ positions) × (macroblocksOf y ≡ count)
+  pub numbers : (sequencesOf y ≡ n) × (positionsOf y ≡ positions) × (countsOf y ≡ record { fewer = fewer; more = more }) × (macroblocksOf y ≡ count)
 
 -- the slot V(5g+m) of sequence q of DIF channel h carries macroblock b
 pub record SlotOf (k b : ℕ) : Type 0 where
@@ -43,7 +51,8 @@ pub record SlotOf (k b : ℕ) : Type 0 where
 
 pub record InNumbers : Type 0 where
   -- "Each system brings its own four numbers."
-  pub systems : Numbers 0 I60 10 1620 5400 × Numbers 1 I50 12 1944 6075 × Numbers 2 P60 10 1620 5400 × Numbers 3 P50 12 1944 5400
+  pub systems : Numbers 0 I60 10 1620 1600 1602 5400 × Numbers 1 I50 12 1944 1920 1920 6075 × Numbers 2 P60 10 1620 1600 1602 5400
+      × Numbers 3 P50 12 1944 1920 1920 5400
   pub counts : (y : System) (k : ℕ) → (sequencesOf y ≡ 10 → isCount y k ≡ (eqb k 1600 || eqb k 1602)) × (sequencesOf y ≡ 12 → isCount y k ≡ eqb k 1920)
   -- 1: "system above 3"
   pub no-system : (k : ℕ) → 3 < k → systemOf k ≡ NoSystem
@@ -52,6 +61,11 @@ pub record InNumbers : Type 0 where
   pub channels : (channelOf 0 1 ≡ 0) × (channelOf 1 1 ≡ 1) × (channelOf 0 0 ≡ 2) × (channelOf 1 0 ≡ 3)
   -- "Places 0 to 5 are H0, SC0, SC1, VA0, VA1, VA2. Then for a = 0 to 8: place 6+16a is A(a), the next 15 are V(15a) to V(15a+14).": figure 3
   pub places : tab (λ (p : ℕ). (codeOf (entryAt (place p) .section), entryAt (place p) .number .0)) 150 ≡ figure3
+  -- and back, over all entries: a place for what stands there, and none for what stands nowhere
+  pub places-back : (p : ℕ) → p < 150
+      → (placeOf (entryAt (place p)) ≡ At (place p)) × (placeFor (entryAt (place p) .section) (entryAt (place p) .number) ≡ place p)
+  pub places-only : (e : Entry) (p : Place) → placeOf e ≡ At p → (p .0 < 150) × (entryAt p ≡ e)
+  pub no-place : (s : Section) (k : BlockNumber) → placeFor s k .0 < 150 → entryAt (placeFor s k) ≡ record { section = s; number = k }
   -- "A block names its place when section, channel, Dseq and DBN all do.": block j of the stream
   pub names : (y : System) (g : List ℕ) (j : ℕ) → named y g j ≡ true
       → NamesPlace (take 80 (drop (j * 80) g)) (j / 150 / sequencesOf y) (j / 150 % sequencesOf y) (j % 150)
@@ -71,3 +85,9 @@ pub record InNumbers : Type 0 where
   pub slots : (k : ℕ) (y : System) → systemOf k ≡ Known y → (h q g m : ℕ) → h < 4 → q < sequencesOf y → g < 27 → m < 5
       → carriedIn y (slot h q (5 * g + m)) ≡ carried k h q g m
   pub all-carried : (k b : ℕ) → b < macroblocks k → SlotOf k b
+  -- and back: a macroblock lies in the one slot that carries it; past the system's macroblocks there is none
+  pub lies : (y : System) (s : Slot) (b : ℕ) → carriedIn y s ≡ Macroblock b → (b < macroblocksOf y) × (carrierOf y b ≡ In s)
+  pub lies-past : (y : System) (b : ℕ) → macroblocksOf y ≤ b → carrierOf y b ≡ NoSlot
+  -- what is lent to the writer, each under its own name
+  pub lends : (count : ℕ) (sound : List ℤ) (pictures time group : List ℕ)
+      → lent count sound pictures time group ≡ record { count = count; sound = sound; macroblocks = pictures; timeCode = time; binaryGroup = group }
