@@ -10,6 +10,7 @@ use lib.Dec.{eqb, ltb, leb}
 use lib.IntN.{pos, negsuc}
 use lib.ListN.{getD, take, drop, List·getD-eq-default}
 use lib.Seq.{getD-take, getD-drop}
+use Rattle.base.specs.Calls.{firstOf}
 use Rattle.base.specs.Pick.{pick}
 use Rattle.base.specs.Run.{run, tab}
 use Rattle.base.proofs.Cases.{by-bool, by-lt}
@@ -196,8 +197,11 @@ places-are = refl
 -- ---- all
 
 pub in-numbers : InNumbers
-unfolding sectionOf pick
+unfolding sectionOf pick firstOf run
 in-numbers = record {
+  picks = λ a b. (refl, refl);
+  first-row = λ k rows. (refl, refl, refl);
+  runs = λ f m. (refl, refl);
   systems = (
     record { system = system-number I60; numbers = (refl, refl, refl, refl) },
     record { system = system-number I50; numbers = (refl, refl, refl, refl) },

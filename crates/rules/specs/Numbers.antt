@@ -1,12 +1,14 @@
 -- The rules that the demands stand on, in document 01's own numbers, apart from the definitions that the rest is written in.
 use mathlib.Core.Path.{_≡_}
 use mathlib.Core.Bool.{true, false, _||_}
-use mathlib.Core.List.{List}
-use Prim.Native.Nat.{ℕ, _+_, _*_, _/_, _%_, _≤_, _<_}
+use mathlib.Core.List.{List, [], _∷_, _++_}
+use Prim.Native.Nat.{ℕ, suc, _+_, _*_, _/_, _%_, _≤_, _<_}
 use lib.Dec.{eqb, leb}
 use lib.IntN.{ℤ, pos, negsuc}
 use lib.ListN.{length, getD, take, drop}
-use Rattle.base.specs.Run.{tab}
+use Rattle.base.specs.Calls.{Refusal, firstOf, _when_}
+use Rattle.base.specs.Pick.{pick}
+use Rattle.base.specs.Run.{run, tab}
 use Rattle.rules.specs.declared.System.{System}
 use Rattle.rules.specs.declared.System.the-variants.{I60, I50, P60, P50}
 use Rattle.rules.specs.declared.SystemNumber.the-variants.{Known, NoSystem}
@@ -50,6 +52,10 @@ pub record SlotOf (k b : ℕ) : Type 0 where
   pub carries : carried k h q g m ≡ Macroblock b
 
 pub record InNumbers : Type 0 where
+  -- the words that `Paper` has from the ground: a test picks, the first row that holds gives its number, a run goes on at its end
+  pub picks : (a b : ℕ) → (pick true a b ≡ a) × (pick false a b ≡ b)
+  pub first-row : (k : ℕ) (rows : List Refusal) → (firstOf [] ≡ 0) × (firstOf (k when true ∷ rows) ≡ k) × (firstOf (k when false ∷ rows) ≡ firstOf rows)
+  pub runs : (f : ℕ → List ℕ) (m : ℕ) → (run f 0 ≡ []) × (run f (suc m) ≡ run f m ++ f m)
   -- "Each system brings its own four numbers."
   pub systems : Numbers 0 I60 10 1620 1600 1602 5400 × Numbers 1 I50 12 1944 1920 1920 6075 × Numbers 2 P60 10 1620 1600 1602 5400
       × Numbers 3 P50 12 1944 1920 1920 5400
