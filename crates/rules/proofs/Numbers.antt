@@ -39,7 +39,7 @@ use Rattle.rules.proofs.Samples.{heard-is, word-is, back-is}
 use Rattle.rules.proofs.Sound.{row-below, audio-below, word-below, sequence-below}
 use Rattle.rules.proofs.Picture.{within-there, carrier-one, carried-inside, carried-lies, carrier-past}
 use Rattle.rules.proofs.Faults.{fault-names, names-fault}
-use Rattle.rules.proofs.Paper.{columns, number-known, known-system, fault-is}
+use Rattle.rules.proofs.Paper.{columns, number-known, known-system, id-is, fault-is}
 
 -- ---- isCount
 
@@ -212,6 +212,7 @@ in-numbers = record {
   no-system = system-above;
   sections = (refl, refl, refl, refl, refl);
   channels = channel-pairs;
+  ids = id-is;
   names = λ y g j e. fault-names _ _ _ _ (eqb-true _ _ e);
   names-not = λ y g j e n. eqb-false _ _ e (names-fault _ _ _ _ n);
   sound = λ y g c t. (sound-named y g c t, sound-block y g c t, sound-byte y g c t);

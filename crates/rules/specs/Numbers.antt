@@ -23,7 +23,7 @@ use Rattle.rules.specs.declared.Found.the-variants.{At}
 use Rattle.rules.specs.declared.Section.the-variants.{Header, Subcode, Vaux, Audio, Video}
 use Rattle.rules.specs.Systems.{sequencesOf, halfOf, positionsOf, countsOf, isCount, macroblocksOf, systemOf}
 use Rattle.rules.specs.Places.{codeOf, sectionOf, place, entryAt, placeFor, placeOf}
-use Rattle.rules.specs.Ids.{channelOf}
+use Rattle.rules.specs.Ids.{channelOf, idBytes, idOf}
 use Rattle.rules.specs.Samples.{numberOf, inRange, sampleOf, wordFor, backOf}
 use Rattle.rules.specs.Sound.{byteOf}
 use Rattle.rules.specs.Picture.{slot, carriedIn, carrierOf}
@@ -32,7 +32,7 @@ use Rattle.rules.specs.Stream.{named}
 use Rattle.rules.specs.Reading.{soundBlock, soundNamed}
 use Rattle.rules.specs.Write.{lent}
 use Rattle.rules.specs.Paper
-use Rattle.rules.specs.Paper.{sequences, macroblocks, figure3, fault, heard, carried}
+use Rattle.rules.specs.Paper.{sequences, macroblocks, figure3, channelBits, fault, heard, carried}
 
 -- a row of the table of systems, with its two sample counts
 pub record Numbers (k : ℕ) (y : System) (n positions fewer more count : ℕ) : Type 0 where
@@ -65,6 +65,9 @@ pub record InNumbers : Type 0 where
   -- "0 header, 1 subcode, 2 VAUX, 3 audio, 4 video"; "(FSC, FSP) = (0,1), (1,1), (0,0), (1,0) is channel 0, 1, 2, 3"
   pub sections : (sectionOf 0 ≡ Header) × (sectionOf 1 ≡ Subcode) × (sectionOf 2 ≡ Vaux) × (sectionOf 3 ≡ Audio) × (sectionOf 4 ≡ Video)
   pub channels : (channelOf 0 1 ≡ 0) × (channelOf 1 1 ≡ 1) × (channelOf 0 0 ≡ 2) × (channelOf 1 0 ≡ 3)
+  -- "Byte 0: section in bits 7-5 .. Byte 1: Dseq in bits 7-4, FSC bit 3, FSP bit 2. Byte 2: DBN. .. Other bits are written 1": of any block, in a frame or not
+  pub ids : (s : Section) (h q d : ℕ) → h < 4 → q < 16 → d < 256
+      → idBytes (idOf h q s d) ≡ (32 * codeOf s + 31) ∷ (16 * q + 4 * channelBits h + 3) ∷ d ∷ []
   -- "Places 0 to 5 are H0, SC0, SC1, VA0, VA1, VA2. Then for a = 0 to 8: place 6+16a is A(a), the next 15 are V(15a) to V(15a+14).": figure 3
   pub places : tab (λ (p : ℕ). (codeOf (entryAt (place p) .section), entryAt (place p) .number .0)) 150 ≡ figure3
   -- and back, over all entries: a place for what stands there, and none for what stands nowhere
