@@ -35,7 +35,7 @@ use Rattle.rules.proofs.Systems.{system-number, system-above, half-case
 use Rattle.rules.proofs.Places.{place-for-entry, place-for-none, place-of-entry, entry-of-place}
 use Rattle.rules.proofs.Ids.{channel-pairs}
 use Rattle.rules.proofs.Blocks.{start-within}
-use Rattle.rules.proofs.Samples.{heard-is, word-is, back-is}
+use Rattle.rules.proofs.Samples.{lost-word, sample-lost, sample-level, sample-none, heard-is, word-is, back-is}
 use Rattle.rules.proofs.Sound.{row-below, audio-below, word-below, sequence-below}
 use Rattle.rules.proofs.Picture.{within-there, carrier-one, carried-inside, carried-lies, carrier-past}
 use Rattle.rules.proofs.Faults.{fault-names, names-fault}
@@ -217,6 +217,9 @@ in-numbers = record {
   names-not = λ y g j e n. eqb-false _ _ e (names-fault _ _ _ _ n);
   sound = λ y g c t. (sound-named y g c t, sound-block y g c t, sound-byte y g c t);
   range = range-numbers;
+  lost = (sample-lost, lost-word .0);
+  levels = sample-level;
+  no-sample = sample-none;
   places = places-are;
   places-back = λ p h. (place-of-entry p h, place-for-entry p h);
   places-only = entry-of-place;

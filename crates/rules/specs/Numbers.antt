@@ -2,6 +2,7 @@
 use mathlib.Core.Path.{_≡_}
 use mathlib.Core.Bool.{true, false, _||_}
 use mathlib.Core.List.{List, [], _∷_, _++_}
+use mathlib.Core.Logic.{_≢_}
 use Prim.Native.Nat.{ℕ, suc, _+_, _*_, _/_, _%_, _≤_, _<_}
 use lib.Dec.{eqb, leb}
 use lib.IntN.{ℤ, pos, negsuc}
@@ -12,6 +13,8 @@ use Rattle.base.specs.Run.{run, tab}
 use Rattle.rules.specs.declared.System.{System}
 use Rattle.rules.specs.declared.System.the-variants.{I60, I50, P60, P50}
 use Rattle.rules.specs.declared.SystemNumber.the-variants.{Known, NoSystem}
+use Rattle.rules.specs.declared.Sample.the-variants.{Level, Lost}
+use Rattle.rules.specs.declared.SampleNumber.the-variants.{Sampled, NoSample}
 use Rattle.rules.specs.declared.Carried.the-variants.{Macroblock}
 use Rattle.rules.specs.declared.Carrier.the-variants.{In, NoSlot}
 use Rattle.rules.specs.declared.Slot.{Slot}
@@ -24,7 +27,7 @@ use Rattle.rules.specs.declared.Section.the-variants.{Header, Subcode, V
 use Rattle.rules.specs.Systems.{sequencesOf, halfOf, positionsOf, countsOf, isCount, macroblocksOf, systemOf}
 use Rattle.rules.specs.Places.{codeOf, sectionOf, place, entryAt, placeFor, placeOf}
 use Rattle.rules.specs.Ids.{channelOf, idBytes, idOf}
-use Rattle.rules.specs.Samples.{numberOf, inRange, sampleOf, wordFor, backOf}
+use Rattle.rules.specs.Samples.{numberOf, inRange, sampleIn, sampleOf, wordFor, backOf}
 use Rattle.rules.specs.Sound.{byteOf}
 use Rattle.rules.specs.Picture.{slot, carriedIn, carrierOf}
 use Rattle.rules.specs.Faults.{faultAt, NamesPlace}
@@ -87,6 +90,10 @@ pub record InNumbers : Type 0 where
       × (soundBlock y g c t ≡ take 80 (drop (Paper.soundBlock (sequencesOf y) c t * 80) g)) × (byteOf (halfOf y) t ≡ 8 + 2 * (t / (9 * (sequencesOf y / 2))))
   -- "a sample outside -32,768 to 32,768"
   pub range : (n : ℕ) → (inRange (pos n) ≡ leb n 32768) × (inRange (negsuc n) ≡ leb n 32767)
+  -- "a sample is a level or it is lost", 32,768 in a slice and 8000h in a block; outside the range there is none
+  pub lost : (sampleIn (pos 32768) ≡ Sampled Lost) × (sampleOf 0x8000 ≡ Lost)
+  pub levels : (z : ℤ) → inRange z ≡ true → z ≢ pos 32768 → sampleIn z ≡ Sampled (Level z)
+  pub no-sample : (z : ℤ) → inRange z ≡ false → sampleIn z ≡ NoSample
   -- "Word 8000h is lost; a level of -32,768 is written 8001h", and comes back as -32,767
   pub hears : (w : ℕ) → numberOf (sampleOf w) ≡ heard w
   pub words : (z : ℤ) → inRange z ≡ true → (wordFor z ≡ Paper.wordOf z) × (backOf z ≡ Paper.back z)
