@@ -10,6 +10,7 @@ use lib.Dec.{eqb, ltb, leb}
 use lib.IntN.{pos, negsuc}
 use lib.ListN.{getD, take, drop, List·getD-eq-default}
 use lib.Seq.{getD-take, getD-drop}
+use Rattle.base.specs.Calls.{firstOf}
 use Rattle.base.specs.Pick.{pick}
 use Rattle.base.specs.Run.{run, tab}
 use Rattle.base.proofs.Cases.{by-bool, by-lt}
@@ -31,13 +32,14 @@ use Rattle.rules.specs.Paper
 use Rattle.rules.specs.Paper.{soundStart, soundWord, heard, tenRows, elevenRows, carried, macroblocks, figure3}
 use Rattle.rules.specs.Numbers.{SlotOf, InNumbers}
 use Rattle.rules.proofs.Systems.{system-number, system-above, half-cases, half-twice, positions-half, sequences-some}
+use Rattle.rules.proofs.Places.{place-for-entry, place-for-none, place-of-entry, entry-of-place}
 use Rattle.rules.proofs.Ids.{channel-pairs}
 use Rattle.rules.proofs.Blocks.{start-within}
-use Rattle.rules.proofs.Samples.{heard-is, word-is, back-is}
+use Rattle.rules.proofs.Samples.{lost-word, sample-lost, sample-level, sample-none, heard-is, word-is, back-is}
 use Rattle.rules.proofs.Sound.{row-below, audio-below, word-below, sequence-below}
-use Rattle.rules.proofs.Picture.{within-there, carrier-one, carried-inside}
+use Rattle.rules.proofs.Picture.{within-there, carrier-one, carried-inside, carried-lies, carrier-past}
 use Rattle.rules.proofs.Faults.{names-place, names-none}
-use Rattle.rules.proofs.Paper.{columns, number-known, known-system, fault-is}
+use Rattle.rules.proofs.Paper.{columns, number-known, known-system, id-is, fault-is}
 
 -- ---- isCount
 
@@ -195,27 +197,36 @@ places-are = refl
 -- ---- all
 
 pub in-numbers : InNumbers
-unfolding sectionOf pick
+unfolding sectionOf pick firstOf run
 in-numbers = record {
   systems = (
-    record { system = system-number I60; numbers = (refl, refl, refl) },
-    record { system = system-number I50; numbers = (refl, refl, refl) },
-    record { system = system-number P60; numbers = (refl, refl, refl) },
-    record { system = system-number P50; numbers = (refl, refl, refl) },
+    record { system = system-number I60; numbers = (refl, refl, refl, refl) },
+    record { system = system-number I50; numbers = (refl, refl, refl, refl) },
+    record { system = system-number P60; numbers = (refl, refl, refl, refl) },
+    record { system = system-number P50; numbers = (refl, refl, refl, refl) },
   );
   counts = λ y k. (count-60 y k, count-50 y k);
   no-system = system-above;
   sections = (refl, refl, refl, refl, refl);
   channels = channel-pairs;
+  ids = id-is;
   names = λ y g j e. names-place _ _ _ _ e;
   names-not = λ y g j e n. names-none _ _ _ _ e n;
   sound = λ y g c t. (sound-named y g c t, sound-block y g c t, sound-byte y g c t);
   range = range-numbers;
+  lost = (sample-lost, lost-word .0);
+  levels = sample-level;
+  no-sample = sample-none;
   places = places-are;
+  places-back = λ p h. (place-of-entry p h, place-for-entry p h);
+  places-only = entry-of-place;
+  no-place = place-for-none;
   faults = fault-is;
   hears = heard-is;
   words = λ z e. (word-is z e, back-is z e);
   lends = λ count sound macroblocks time group. refl;
   slots = λ k y known h q g m hh hq hg hm. carried-is h q g m hg hm k y known hh hq;
   all-carried = slot-of;
+  lies = carried-lies;
+  lies-past = carrier-past;
 }

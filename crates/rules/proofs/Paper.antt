@@ -1,8 +1,9 @@
 -- Document 01's own numbers and bytes are those of the definitions. Assumes nothing.
 use mathlib.Core.Path.{_≡_, refl, sym, ap, _∙_, subst}
 use mathlib.Core.Bool.{Bool}
-use mathlib.Core.List.{List}
+use mathlib.Core.List.{List, [], _∷_}
 use Prim.Native.Nat.{ℕ, _+_, _*_, _/_, _%_, _≤_, _<_}
+use native.Mathlib.Nat.{mod-eq-of-lt}
 use native.Mathlib.Omega.{arith}
 use lib.Dec.{eqb, eqb→eq}
 use lib.ListN.{length, getD, take, drop, List·getD-eq-default}
@@ -18,10 +19,11 @@ use Rattle.rules.specs.declared.System.{System}
 use Rattle.rules.specs.declared.System.the-variants.{I60, I50, P60, P50}
 use Rattle.rules.specs.declared.SystemNumber.{SystemNumber}
 use Rattle.rules.specs.declared.SystemNumber.the-variants.{Known, NoSystem}
+use Rattle.rules.specs.declared.Section.{Section}
 use Rattle.rules.specs.declared.Entry.{Entry}
 use Rattle.rules.specs.Systems.{sequencesOf, positionsOf, countsOf, macroblocksOf, rateOf, stypeOf, systemOf, numberOfSystem, inSystem}
 use Rattle.rules.specs.Places.{codeOf, place, places, entryAt}
-use Rattle.rules.specs.Ids.{channelOf, namedBy, fscOf, fspOf}
+use Rattle.rules.specs.Ids.{channelOf, namedBy, fscOf, fspOf, idBytes, idOf}
 use Rattle.rules.specs.Blocks.{startOf, blockAt, sequenceAt, blockIn}
 use Rattle.rules.specs.Faults.{misnamed, faultOf, faultAt}
 use Rattle.rules.specs.Paper.{sequences, positions, fewer, more, macroblocks, rate, stype, lastFrame, byteAt, bytesAt, figure3, sectionAt, numberAt, channelBy, channelBits, fault}
@@ -134,6 +136,15 @@ channel-by x =
 
 pub bits-channel : (h : ℕ) → h < 4 → 2 * fscOf h + fspOf h ≡ channelBits h
 bits-channel h l = eqb→eq _ _ (below-at (λ j. eqb (2 * fscOf j + fspOf j) (channelBits j)) 4 tt h l)
+
+-- ---- idBytes
+
+pub id-is : (s : Section) (h q d : ℕ) → h < 4 → q < 16 → d < 256 → idBytes (idOf h q s d) ≡ (32 * codeOf s + 31) ∷ (16 * q + 4 * channelBits h + 3) ∷ d ∷ []
+unfolding idBytes
+id-is s h q d hh hq hd =
+    let a : codeOf s * 32 + 31 ≡ 32 * codeOf s + 31 = omega arith in
+    let b : q % 16 * 16 + fscOf h * 8 + fspOf h * 4 + 3 ≡ 16 * q + 4 * channelBits h + 3 = omega (arith, bits-channel h hh, mod-eq-of-lt hq) in
+    λ i. a i ∷ b i ∷ mod-eq-of-lt hd i ∷ []
 
 -- ---- fault
 

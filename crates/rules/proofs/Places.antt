@@ -117,6 +117,15 @@ module _ (s : Section) (k : BlockNumber) where
   pub entry-place-for : k .0 < blocksOf s → entryAt (placeFor s k) ≡ record { section = s; number = k }
   entry-place-for h = ap entryAt (place-for h) ∙ entry-place-in s (k .0) h
 
+  pub place-for-none : placeFor s k .0 < 150 → entryAt (placeFor s k) ≡ record { section = s; number = k }
+  place-for-none h =
+      by-lt (k .0) (blocksOf s)
+      (λ within. entry-place-for within)
+      (λ past. absurd (omega (arith, h, ap (λ (p : Place). p .0) (place-for-past past))))
+
+pub place-for-entry : (p : ℕ) → p < 150 → placeFor (entryAt (place p) .section) (entryAt (place p) .number) ≡ place p
+place-for-entry p h = place-for _ _ (entry-number-below p h) ∙ ap place (place-in-entry p h)
+
 -- ---- placeOf: the one rule that turns a place into a block and back
 
 pub place-of-entry : (p : ℕ) → p < 150 → placeOf (entryAt (place p)) ≡ At (place p)

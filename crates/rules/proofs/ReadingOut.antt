@@ -67,10 +67,10 @@ id-out {id} {o} {v} read said =
       wrong-length = λ d. read .answer ∙ read-id-4 id d;
       reserved = λ three r. read .answer ∙ read-id-11 id three r;
       named = λ three l. read .answer ∙ read-id-0 id three l ∙ rw (section-is _ l, channel-by (getD id 1 0)) refl;
+      same = read .says ∙ sym (said .answer);
       values = λ z.
           let zero : idNumber id ≡ 0 = sym (ap (λ (x : IdValues). x .number) (said .answer) ∙ says-number id) ∙ z in
           said .answer ∙ pick-true _ _ (eq-eqb _ 0 zero) ∙ rw (channel-by (getD id 1 0)) refl;
-      same = read .says ∙ sym (said .answer);
     }
 
 -- ---- view, view_at

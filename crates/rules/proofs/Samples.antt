@@ -13,7 +13,7 @@ use Rattle.base.specs.Pick.{pick}
 use Rattle.base.proofs.Cases.{by-bool, by-lt, by-eq}
 use Rattle.base.proofs.Picks.{pick-either, both-held}
 use Rattle.rules.specs.declared.Sample.the-variants.{Level, Lost}
-use Rattle.rules.specs.declared.SampleNumber.the-variants.{NoSample}
+use Rattle.rules.specs.declared.SampleNumber.the-variants.{Sampled, NoSample}
 use Rattle.rules.specs.Samples.{numberOf, inRange, sampleIn, allInRange, sampleOf, wordOf, wordIn, wordFor, bytesOf, wordAt, backOf}
 use Rattle.rules.specs.Paper
 use Rattle.rules.specs.Paper.{heard, back}
@@ -52,6 +52,18 @@ range-ends = (refl, refl, refl, refl)
 pub sample-none : (z : ℤ) → inRange z ≡ false → sampleIn z ≡ NoSample
 unfolding sampleIn pick
 sample-none z e = rw e refl
+
+pub sample-lost : sampleIn (pos 32768) ≡ Sampled Lost
+unfolding sampleIn inRange pick
+sample-lost = refl
+
+pub sample-level : (z : ℤ) → inRange z ≡ true → (z ≡ pos 32768 → ⊥) → sampleIn z ≡ Sampled (Level z)
+unfolding sampleIn inRange pick
+sample-level (pos n) e d =
+    by-eq n 32768
+    (λ q. absurd (d (ap pos q)))
+    (λ o. rw (e, lt-leb 32768 n (omega (arith, o, leb-true n 32768 e))) refl)
+sample-level (negsuc n) e d = rw e refl
 
 -- ---- wordFor, backOf in document 01's words: a number that is given, as its word and as it comes back
 

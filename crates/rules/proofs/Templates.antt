@@ -1,9 +1,9 @@
 -- The bytes that document 01 lays down are those of the definitions that a frame is written by. Assumes nothing.
-use mathlib.Core.Path.{_≡_, refl, sym, ap, _∙_}
+use mathlib.Core.Path.{_≡_, refl, sym, ap, ap₂, _∙_}
 use mathlib.Core.Bool.{Bool, true, false}
 use mathlib.Core.List.{List, [], _∷_}
-use Prim.Native.Nat.{ℕ, _+_, _-_, _*_, _/_, _%_, _≤_, _<_}
-use native.Mathlib.Nat.{mod-eq-of-lt, div-eq-of-lt, mul-add-div}
+use Prim.Native.Nat.{ℕ, _+_, _-_, _*_, _/_, _≤_, _<_}
+use native.Mathlib.Nat.{div-eq-of-lt, mul-add-div}
 use native.Mathlib.Omega.{arith}
 use lib.Dec.{eqb}
 use lib.ListN.{replicate}
@@ -17,8 +17,8 @@ use Rattle.rules.specs.declared.Pack.{Pack}
 use Rattle.rules.specs.declared.SubcodePack.{SubcodePack}
 use Rattle.rules.specs.declared.SubcodePack.the-variants.{TimeCode, BinaryGroup, NoPack}
 use Rattle.rules.specs.Systems.{sequencesOf, halfOf, rateOf, stypeOf, systemOf}
-use Rattle.rules.specs.Places.{codeOf, place, entryAt}
-use Rattle.rules.specs.Ids.{idBytes, idOf, fscOf, fspOf}
+use Rattle.rules.specs.Places.{place, entryAt}
+use Rattle.rules.specs.Ids.{idBytes, idOf}
 use Rattle.rules.specs.Packs.{packBytes, noPack}
 use Rattle.rules.specs.Header.{headerBytes, rateByte}
 use Rattle.rules.specs.Subcode.{isFirst, kindOf, subcodePack, ssyb, frByte}
@@ -27,26 +27,21 @@ use Rattle.rules.specs.Vaux.{vsAt, vscPack, vauxPack}
 use Rattle.rules.specs.Aaux
 use Rattle.rules.specs.Aaux.{asAt, sizeOf, ascPack, modeOf, aauxPack}
 use Rattle.rules.specs.Sound.{audioAt}
-use Rattle.rules.specs.Paper.{sequences, rate, stype, byteAt, sectionAt, numberAt, channelBits, asPack, vsPack}
+use Rattle.rules.specs.Paper.{sequences, rate, stype, byteAt, channelBits, asPack, vsPack}
 use Rattle.rules.specs.Form.{cut, halfIn, idForm, headerForm, subcodeForm, ssybForm, vauxForm, aauxForm}
 use Rattle.rules.proofs.Systems.{half-cases, half-twice}
 use Rattle.rules.proofs.Places.{number-below}
 use Rattle.rules.proofs.Sound.{half-some}
 use Rattle.rules.proofs.Subcode.{isTime, isGroup}
-use Rattle.rules.proofs.Paper.{Columns, columns, figure-section, figure-number, bits-channel}
+use Rattle.rules.proofs.Paper.{Columns, columns, figure-section, figure-number, id-is}
 use Rattle.rules.proofs.GroundsTime.{half-first, holds-time, holds-group}
 
 -- ---- idBytes
 
 pub id-form : (h q p : ℕ) → h < 4 → q < 16 → p < 150 → idForm h q p ≡ idBytes (idOf h q (entryAt (place p) .section) (entryAt (place p) .number .0))
-unfolding idBytes
 id-form h q p hh hq hp =
-    let n : ℕ = entryAt (place p) .number .0 in
-    let small : n < 256 = omega (arith, number-below p hp) in
-    let a : 32 * sectionAt p + 31 ≡ codeOf (entryAt (place p) .section) * 32 + 31 = omega (arith, figure-section p) in
-    let b : 16 * q + 4 * channelBits h + 3 ≡ q % 16 * 16 + fscOf h * 8 + fspOf h * 4 + 3 = omega (arith, bits-channel h hh, mod-eq-of-lt hq) in
-    let c : numberAt p ≡ n % 256 = sym (figure-number p) ∙ sym (mod-eq-of-lt small) in
-    λ i. a i ∷ b i ∷ c i ∷ []
+    ap₂ (λ (s n : ℕ). (32 * s + 31) ∷ (16 * q + 4 * channelBits h + 3) ∷ n ∷ []) (sym (figure-section p)) (sym (figure-number p))
+    ∙ sym (id-is _ h q _ hh hq (omega (arith, number-below p hp)))
 
 -- ---- packBytes
 
