@@ -27,7 +27,7 @@ use Rattle.rules.specs.Written.{Lent}
 use Rattle.rules.specs.Write.{Wrote}
 use Rattle.rules.specs.Rows.{rowsAgree, printedRows}
 use Rattle.rules.specs.Known.{all, table}
-use Rattle.rules.specs.Paper.{sequences, positions, macroblocks, faultOf}
+use Rattle.rules.specs.Paper.{sequences, positions, macroblocks, streamFault}
 use Rattle.rules.specs.Refusals.{OwnCount}
 use Rattle.rules.specs.Numbers.{InNumbers}
 use Rattle.rules.specs.Demand1.{EveryCall}
@@ -145,7 +145,7 @@ demand-3-same = same-listed
 
 -- a survey that counts none has seen every block name its place
 pub not-coasting : {n first m : ℕ} {bytes list list′ : List ℕ} {r : Survey} → Listed n bytes first m list r list′ → r .total ≡ 0 → (j : ℕ) → j < m
-    → faultOf n bytes j (first + j) ≡ 0
+    → streamFault n bytes j (first + j) ≡ 0
 not-coasting = coasting
 
 -- ---- the premises can be met, for each system and count; and what the demands refute

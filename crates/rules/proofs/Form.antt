@@ -31,7 +31,7 @@ use Rattle.rules.specs.Picture.{slot}
 use Rattle.rules.specs.Time.{fourBytes}
 use Rattle.rules.specs.Written.{Lent, storedWord, audioBytes, payload, entryBlock, writtenBlock, writtenFrame}
 use Rattle.rules.specs.Write.{Takes}
-use Rattle.rules.specs.Paper.{sequences, byteAt, bytesAt, soundStart, soundWord, wordOf, asPack, countBy, countSaid}
+use Rattle.rules.specs.Paper.{sequences, byteAt, bytesAt, soundStart, soundWord, wordBy, asPack, countBy, countSaid}
 use Rattle.rules.specs.Refusals.{OwnCount}
 use Rattle.rules.specs.Form.{cut, idForm, headerForm, vauxForm, HasForm}
 use Rattle.rules.specs.Demand2.{given, LaidOut}
@@ -234,7 +234,7 @@ module _ (k : ℕ) (y : System) (known : systemOf k ≡ Known y) (l : Lent) wher
 
 module _ (k : ℕ) (y : System) (known : systemOf k ≡ Known y) (l : Lent) (size : ℕ) (takes : Takes y l size) where
   -- the word of a sample that was given
-  word-given : (c t : ℕ) → 0 < c → c < 9 → t < l .count → storedWord l c t ≡ wordOf (given l c t)
+  word-given : (c t : ℕ) → 0 < c → c < 9 → t < l .count → storedWord l c t ≡ wordBy (given l c t)
   word-given c t c1 c8 ht = stored-word l c t c1 c8 (takes .sounds) (takes .levels) ht ∙ word-is (given l c t) (given-in l c t c1 c8 (takes .sounds) (takes .levels) ht)
 
   in-positions : {t : ℕ} → t < l .count → t < positionsOf y

@@ -22,7 +22,7 @@ use Rattle.rules.specs.Vaux.{vsAt, vsOk}
 use Rattle.rules.specs.Faults.{faultAt}
 use Rattle.rules.specs.Stream.{blocksIn, nthBlock, channelAt, dseqAt, placeAt, named}
 use Rattle.rules.specs.Check.{everySequence, headerIn, vsIn, dsfAgrees, vsAgrees, unflagged, faultIn}
-use Rattle.rules.specs.Paper.{sequences, rate, stype, byteAt, faultOf, vauxPlace, vauxByte, vsPack}
+use Rattle.rules.specs.Paper.{sequences, rate, stype, byteAt, streamFault, vauxPlace, vauxByte, vsPack}
 use Rattle.rules.specs.Refusals.{Table, _if_, _else_, FirstFault, Some, WrongDsf, WrongVs, Flagged, vsByte}
 use Rattle.rules.proofs.Paper.{Columns, columns, fault-is, byte-in}
 use Rattle.rules.proofs.Tables.{Exactly, row-exactly}
@@ -45,7 +45,7 @@ module _ (k : ℕ) (y : System) (known : systemOf k ≡ Known y) (f : List ℕ) 
   -- ---- 11 to 15
 
   module _ (whole : length f ≡ 48000 * sequencesOf y) where
-    nth-fault : (j : ℕ) → j < blocksIn y → faultAt (nthBlock f j) (channelAt y j) (dseqAt y j) (placeAt j) ≡ faultOf (sequences k) f j j
+    nth-fault : (j : ℕ) → j < blocksIn y → faultAt (nthBlock f j) (channelAt y j) (dseqAt y j) (placeAt j) ≡ streamFault (sequences k) f j j
     nth-fault j l =
         let byte : (i : ℕ) → i < 80 → getD (nthBlock f j) i 0 ≡ getD f (j * 80 + i) 0 = λ i hi. getD-take 80 (drop (j * 80) f) i 0 hi ∙ getD-drop (j * 80) f i 0 in
         let b0 : getD (nthBlock f j) 0 0 ≡ getD f (j * 80) 0 = byte 0 (omega arith) ∙ rw add-zero refl in
@@ -53,10 +53,10 @@ module _ (k : ℕ) (y : System) (known : systemOf k ≡ Known y) (f : List ℕ) 
         fault-is (nthBlock f j) (channelAt y j) (dseqAt y j) (placeAt j) long
         ∙ rw (b0, byte 1 (omega arith), byte 2 (omega arith), cols .sequences-is) refl
 
-    names-means : (j : ℕ) → j < blocksIn y → named y f j ≡ true → faultOf (sequences k) f j j ≡ 0
+    names-means : (j : ℕ) → j < blocksIn y → named y f j ≡ true → streamFault (sequences k) f j j ≡ 0
     names-means j l e = sym (nth-fault j l) ∙ eqb-true _ _ e
 
-    names-when : (j : ℕ) → j < blocksIn y → faultOf (sequences k) f j j ≡ 0 → named y f j ≡ true
+    names-when : (j : ℕ) → j < blocksIn y → streamFault (sequences k) f j j ≡ 0 → named y f j ≡ true
     names-when j l e = eq-eqb _ _ (nth-fault j l ∙ e)
 
     -- all of the first m blocks name their place, or one is the first that does not

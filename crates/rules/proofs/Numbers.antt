@@ -29,7 +29,7 @@ use Rattle.rules.specs.Faults.{names}
 use Rattle.rules.specs.Stream.{named}
 use Rattle.rules.specs.Reading.{soundBlock, soundNamed, readSample}
 use Rattle.rules.specs.Paper
-use Rattle.rules.specs.Paper.{soundStart, soundWord, heard, tenRows, elevenRows, carried, macroblocks, figure3}
+use Rattle.rules.specs.Paper.{soundStart, soundWord, sampleBy, tenRows, elevenRows, carried, macroblocks, figure3}
 use Rattle.rules.specs.Numbers.{SlotOf, InNumbers}
 use Rattle.rules.proofs.Systems.{system-number, system-above, half-cases, half-twice, positions-half, sequences-some}
 use Rattle.rules.proofs.Places.{place-for-entry, place-for-none, place-of-entry, entry-of-place}
@@ -69,7 +69,7 @@ range-numbers n = (refl, by-bool (leb n 32767) (λ e. rw e refl) (λ e. rw e ref
 
 module _ (y : System) (g : List ℕ) (c t : ℕ) where
   abbrev j : ℕ
-  j = Paper.soundBlock (sequencesOf y) c t
+  j = Paper.soundIndex (sequencesOf y) c t
 
   index-is : j ≡ (sequencesOf y * difOf c + sequenceOf (halfOf y) c t) * 150 + soundPlace (halfOf y) t
   unfolding halfOf
@@ -127,9 +127,9 @@ module _ (y : System) (g : List ℕ) (c t : ℕ) where
     pub sound-word : wordAt (soundBlock y g c t) (byteOf (halfOf y) t) ≡ soundWord (sequencesOf y) g c t
     sound-word = rw (sound-high, sound-low) refl
 
-    pub sound-heard : numberOf (readSample y g c t) ≡ heard (soundWord (sequencesOf y) g c t)
+    pub sound-heard : numberOf (readSample y g c t) ≡ sampleBy (soundWord (sequencesOf y) g c t)
     unfolding readSample
-    sound-heard = heard-is (wordAt (soundBlock y g c t) (byteOf (halfOf y) t)) ∙ ap heard sound-word
+    sound-heard = heard-is (wordAt (soundBlock y g c t) (byteOf (halfOf y) t)) ∙ ap sampleBy sound-word
 
 -- ---- carriedIn: what the slot V(5g+m) carries
 

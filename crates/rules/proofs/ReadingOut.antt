@@ -37,7 +37,7 @@ use Rattle.rules.specs.Reading.{readSample}
 use Rattle.rules.specs.Audio.{countFor, audioNumber, AudioRead}
 use Rattle.rules.specs.Macroblock.{macroblockNumber, slotBytes, macroblockAt, slotStart, carrierStart, MacroblockRead, MacroblockLies}
 use Rattle.rules.specs.Time.{withBit6, settled, timeFirst, groupFirst, fourBytes, timeNumber, TimeRead}
-use Rattle.rules.specs.Paper.{sequences, start, byteAt, bytesAt, soundWord, heard, slotPlace, carried}
+use Rattle.rules.specs.Paper.{sequences, start, byteAt, bytesAt, soundWord, sampleBy, slotPlace, carried}
 use Rattle.rules.specs.Demand2.{IdOut, ViewOut, MacroblockOut, Strict, StrictlyRead, ReadOut, answered}
 use Rattle.rules.proofs.Places.{code-one, code-section}
 use Rattle.rules.proofs.Blocks.{block-in-sequence, block-length, part-taken}
@@ -104,7 +104,7 @@ module _ {k : ℕ} {f : List ℕ} {c : ℕ} {samples samples′ : List ℤ} {r :
     count-is : r .count ≡ countFor y f c
     count-is = ap (λ (a : AudioAnswer). a .count) (audio-taken k f c samples y known z read .0)
 
-    sample-out : (t : ℕ) → t < r .count → getD samples′ t (pos 0) ≡ heard (soundWord (sequencesOf y) f c t)
+    sample-out : (t : ℕ) → t < r .count → getD samples′ t (pos 0) ≡ sampleBy (soundWord (sequencesOf y) f c t)
     sample-out t h =
         audio-sample k f c samples y known z read t h
         ∙ sound-heard y f c t (omega (arith, h, count-is, audio-count k f c samples y known z, audio-zero k f c (length samples) y known z .2))

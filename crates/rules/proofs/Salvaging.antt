@@ -43,7 +43,7 @@ sound-fault : (y : System) (g : List ℕ) (c t : ℕ) → length g ≡ 48000 * s
     → soundNamed y g c t ≡ eqb (faultFor (sequencesOf y) g c t) 0
 sound-fault y g c t whole c1 c8 =
     sound-named y g c t
-    ∙ ap (λ (x : ℕ). eqb x 0) (block-fault g (Paper.soundBlock (sequencesOf y) c t) _ _ _ (omega (arith, whole, sound-within y g c t c1 c8)))
+    ∙ ap (λ (x : ℕ). eqb x 0) (block-fault g (Paper.soundIndex (sequencesOf y) c t) _ _ _ (omega (arith, whole, sound-within y g c t c1 c8)))
 
 -- ---- stored: what the word of a position says
 

@@ -16,7 +16,7 @@ use Rattle.rules.specs.declared.Sample.the-variants.{Level, Lost}
 use Rattle.rules.specs.declared.SampleNumber.the-variants.{Sampled, NoSample}
 use Rattle.rules.specs.Samples.{numberOf, inRange, sampleIn, allInRange, sampleOf, wordOf, wordIn, wordFor, bytesOf, wordAt, backOf}
 use Rattle.rules.specs.Paper
-use Rattle.rules.specs.Paper.{heard, back}
+use Rattle.rules.specs.Paper.{sampleBy, back}
 
 -- ---- sampleOf, wordOf
 
@@ -67,8 +67,8 @@ sample-level (negsuc n) e d = rw e refl
 
 -- ---- wordFor, backOf in document 01's words: a number that is given, as its word and as it comes back
 
-pub word-is : (z : ℤ) → inRange z ≡ true → wordFor z ≡ Paper.wordOf z
-unfolding inRange sampleIn wordIn wordOf Paper.wordOf pick
+pub word-is : (z : ℤ) → inRange z ≡ true → wordFor z ≡ Paper.wordBy z
+unfolding inRange sampleIn wordIn wordOf Paper.wordBy pick
 word-is (pos n) e =
     let h : n ≤ 32768 = leb-true n 32768 e in
     by-eq n 32768
@@ -94,8 +94,8 @@ back-is (negsuc n) e =
 
 -- ---- sampleOf in document 01's words
 
-pub heard-is : (w : ℕ) → numberOf (sampleOf w) ≡ heard w
-unfolding sampleOf heard pick
+pub heard-is : (w : ℕ) → numberOf (sampleOf w) ≡ sampleBy w
+unfolding sampleOf sampleBy pick
 heard-is w =
     by-eq w 0x8000
     (λ q. rw q refl)
@@ -108,8 +108,8 @@ heard-is w =
 
 -- ---- wordFor: a number comes back, but -32,768 as -32,767
 
-heard-again : (z : ℤ) → inRange z ≡ true → heard (Paper.wordOf z) ≡ back z
-unfolding inRange heard Paper.wordOf back pick
+heard-again : (z : ℤ) → inRange z ≡ true → sampleBy (Paper.wordBy z) ≡ back z
+unfolding inRange sampleBy Paper.wordBy back pick
 heard-again (pos n) e = rw e refl
 heard-again (negsuc n) e =
     let h : n ≤ 32767 = leb-true n 32767 (both-held (leb n 32767) true e .0) in
@@ -120,11 +120,11 @@ heard-again (negsuc n) e =
     rw (ne-eqb n 32767 d, lt-leb (0xFFFF - n) 0x8000 (omega (arith, d)), same) refl)
 
 pub number-again : (z : ℤ) → inRange z ≡ true → numberOf (sampleOf (wordFor z)) ≡ backOf z
-number-again z e = heard-is (wordFor z) ∙ ap heard (word-is z e) ∙ heard-again z e ∙ sym (back-is z e)
+number-again z e = heard-is (wordFor z) ∙ ap sampleBy (word-is z e) ∙ heard-again z e ∙ sym (back-is z e)
 
 -- a word has 16 bits
-level-below : (z : ℤ) → inRange z ≡ true → Paper.wordOf z < 65536
-unfolding Paper.wordOf inRange
+level-below : (z : ℤ) → inRange z ≡ true → Paper.wordBy z < 65536
+unfolding Paper.wordBy inRange
 level-below (pos n) e = let k : n ≤ 32768 = leb-true n 32768 e in omega arith
 level-below (negsuc n) e = pick-either (λ w. w < 65536) _ (omega arith) (omega arith)
 

@@ -21,7 +21,7 @@ use Rattle.rules.specs.Systems.{halfOf}
 use Rattle.rules.specs.TimeCode.{timePack, timeTaken}
 use Rattle.rules.specs.Samples.{inRange}
 use Rattle.rules.specs.Write.{Wrote, Takes}
-use Rattle.rules.specs.Paper.{sequences, positions, macroblocks, faultOf, records, back}
+use Rattle.rules.specs.Paper.{sequences, positions, macroblocks, streamFault, records, back}
 use Rattle.rules.specs.Refusals.{OwnCount}
 use Rattle.rules.specs.Demand2.{Strict, StrictlyRead, given, ReadsBack, tone}
 use Rattle.rules.specs.Demand3.{SampleSalvaged, Listed}
@@ -86,11 +86,11 @@ module _ (k count c t : ℕ) (c1 : 0 < c) (c8 : c < 9) (below : t < count) where
 
 -- ---- records: none only where every block names its place
 
-records-none : (n : ℕ) (bytes : List ℕ) (first m j : ℕ) → length (records n bytes first m) ≡ 0 → j < m → faultOf n bytes j (first + j) ≡ 0
+records-none : (n : ℕ) (bytes : List ℕ) (first m j : ℕ) → length (records n bytes first m) ≡ 0 → j < m → streamFault n bytes j (first + j) ≡ 0
 unfolding records run
 records-none n bytes first zero j e h = absurd (not-suc-le-zero h)
 records-none n bytes first (suc m) j e h =
-    let found = faultOf n bytes m (first + m) in
+    let found = streamFault n bytes m (first + m) in
     let i = first + m in
     let both = length-append (records n bytes first m) (pick (eqb found 0) [] (i / 150 / n ∷ i / 150 % n ∷ i % 150 ∷ found ∷ [])) in
     by-eq j m
@@ -103,7 +103,7 @@ records-none n bytes first (suc m) j e h =
 
 -- the third demand stops a survey that coasts, of a frame and of one sequence
 pub coasting : {n first m : ℕ} {bytes list list′ : List ℕ} {r : Survey} → Listed n bytes first m list r list′ → r .total ≡ 0
-    → (j : ℕ) → j < m → faultOf n bytes j (first + j) ≡ 0
+    → (j : ℕ) → j < m → streamFault n bytes j (first + j) ≡ 0
 coasting {n} {first} {m} {bytes} s z j h = records-none n bytes first m j (omega (arith, z, s .total)) h
 
 -- ---- the strict reads answer of every frame

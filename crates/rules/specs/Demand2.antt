@@ -24,7 +24,7 @@ use Rattle.rules.specs.Macroblock.{MacroblockNumbered, MacroblockRead}
 use Rattle.rules.specs.Time.{TimeRead}
 use Rattle.rules.specs.Written.{Lent}
 use Rattle.rules.specs.Paper.{sequences, positions, macroblocks, rate, start, byteAt, bytesAt, channelBy, soundChannel, soundFirst, soundStart, soundWord}
-use Rattle.rules.specs.Paper.{heard, wordOf, back, countSaid, slotPlace, carried}
+use Rattle.rules.specs.Paper.{sampleBy, wordBy, back, countSaid, slotPlace, carried}
 use Rattle.rules.specs.Form.{HasForm}
 
 -- ---- "Frames are read .. as Recommendation ITU-R BT.1620-1 lays down and document 01 sets out, for all four systems": any input, where a read answers 0
@@ -78,7 +78,7 @@ answered k pc1 = pick (eqb (rate k) 1) (pc1 / 128 * 128 + 64 + pc1 % 64) pc1
 pub record ReadOut (k : ℕ) (f : List ℕ) (c : ℕ) (samples : List ℤ) (b : ℕ) (o : Strict) : Type 0 where
   -- "packs, the place of each audio sample"
   pub count : o .audio .number ≡ 0 → o .audio .count ≡ countSaid (sequences k) f (soundChannel c) (soundFirst (sequences k) c)
-  pub sample : o .audio .number ≡ 0 → (t : ℕ) → t < o .audio .count → getD (o .samples) t (pos 0) ≡ heard (soundWord (sequences k) f c t)
+  pub sample : o .audio .number ≡ 0 → (t : ℕ) → t < o .audio .count → getD (o .samples) t (pos 0) ≡ sampleBy (soundWord (sequences k) f c t)
   pub rest : o .audio .number ≡ 0 → drop (o .audio .count) (o .samples) ≡ drop (o .audio .count) samples
   pub size : length (o .samples) ≡ length samples
   -- "and each compressed macroblock": that of the slot V(5g+m) which carries it
@@ -108,8 +108,8 @@ pub record LaidOut (k : ℕ) (l : Lent) (f : List ℕ) : Type 0 where
   pub time : bytesAt (sequences k) f 0 0 1 31 4 ≡ l .timeCode
   pub group : bytesAt (sequences k) f 0 0 1 39 4 ≡ l .binaryGroup
   -- "the place of each audio sample", high byte first
-  pub high : (c t : ℕ) → 0 < c → c < 9 → t < l .count → getD f (soundStart (sequences k) c t) 0 ≡ wordOf (given l c t) / 256
-  pub low : (c t : ℕ) → 0 < c → c < 9 → t < l .count → getD f (soundStart (sequences k) c t + 1) 0 ≡ wordOf (given l c t) % 256
+  pub high : (c t : ℕ) → 0 < c → c < 9 → t < l .count → getD f (soundStart (sequences k) c t) 0 ≡ wordBy (given l c t) / 256
+  pub low : (c t : ℕ) → 0 < c → c < 9 → t < l .count → getD f (soundStart (sequences k) c t + 1) 0 ≡ wordBy (given l c t) % 256
   -- "and each compressed macroblock"
   pub macroblock : (h q g m b : ℕ) → h < 4 → q < sequences k → g < 27 → m < 5 → carried k h q g m ≡ Macroblock b
       → bytesAt (sequences k) f h q (slotPlace (5 * g + m)) 3 77 ≡ take 77 (drop (77 * b) (l .macroblocks))

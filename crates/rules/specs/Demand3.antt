@@ -11,7 +11,7 @@ use lib.ListN.{length, getD, take, drop}
 use Rattle.base.specs.Pick.{pick}
 use Rattle.rules.specs.declared.Survey.{Survey}
 use Rattle.rules.specs.Written.{Lent}
-use Rattle.rules.specs.Paper.{sequences, positions, faultOf, records, soundBlock, soundWord, heard, back}
+use Rattle.rules.specs.Paper.{sequences, positions, streamFault, records, soundIndex, soundWord, sampleBy, back}
 use Rattle.rules.specs.Demand2.{given}
 
 -- a position as it was stored: the sample given, and silence from the count on
@@ -20,10 +20,10 @@ stored l c t = pick (ltb t (l .count)) (back (given l c t)) (pos 0)
 
 -- the 80 bytes of a position's block, and its fault, 0 where it names its place
 abbrev pub blockOf : ℕ → List ℕ → ℕ → ℕ → List ℕ
-blockOf n f c t = take 80 (drop (soundBlock n c t * 80) f)
+blockOf n f c t = take 80 (drop (soundIndex n c t * 80) f)
 
 abbrev pub faultFor : ℕ → List ℕ → ℕ → ℕ → ℕ
-faultFor n f c t = faultOf n f (soundBlock n c t) (soundBlock n c t)
+faultFor n f c t = streamFault n f (soundIndex n c t) (soundIndex n c t)
 
 -- x is what salvage returns of position t of audio channel c
 pub record SampleSalvaged (n : ℕ) (l : Lent) (f g : List ℕ) (c t : ℕ) (x : ℤ) : Type 0 where
@@ -32,7 +32,7 @@ pub record SampleSalvaged (n : ℕ) (l : Lent) (f g : List ℕ) (c t : ℕ) (x :
   -- "A sample whose block no longer names its own place comes back as lost."
   pub unnamed : faultFor n g c t ≢ 0 → x ≡ pos 32768
   -- "One whose block was overwritten but still names its place is read from the bytes now there."
-  pub renamed : faultFor n g c t ≡ 0 → x ≡ heard (soundWord n g c t)
+  pub renamed : faultFor n g c t ≡ 0 → x ≡ sampleBy (soundWord n g c t)
 
 -- a survey of m blocks, the first of which is block `first` of the stream: its answer r, and the fault list before and after
 pub record Listed (n : ℕ) (bytes : List ℕ) (first m : ℕ) (list : List ℕ) (r : Survey) (list′ : List ℕ) : Type 0 where

@@ -33,7 +33,7 @@ use Rattle.rules.specs.Stream.{named}
 use Rattle.rules.specs.Reading.{soundBlock, soundNamed}
 use Rattle.rules.specs.Write.{lent}
 use Rattle.rules.specs.Paper
-use Rattle.rules.specs.Paper.{sequences, macroblocks, figure3, channelBits, fault, heard, carried}
+use Rattle.rules.specs.Paper.{sequences, macroblocks, figure3, channelBits, fault, sampleBy, carried}
 
 -- a row of the table of systems, with its two sample counts
 pub record Numbers (k : ℕ) (y : System) (n positions fewer more count : ℕ) : Type 0 where
@@ -80,8 +80,8 @@ pub record InNumbers : Type 0 where
   -- 11 to 15, of a block by its three bytes
   pub faults : (block : List ℕ) (h q p : ℕ) → 3 ≤ length block → faultAt block h q p ≡ fault (getD block 0 0) (getD block 1 0) (getD block 2 0) h q p
   -- the block and the byte of a sample
-  pub sound : (y : System) (g : List ℕ) (c t : ℕ) → (soundNamed y g c t ≡ named y g (Paper.soundBlock (sequencesOf y) c t))
-      × (soundBlock y g c t ≡ take 80 (drop (Paper.soundBlock (sequencesOf y) c t * 80) g)) × (byteOf (halfOf y) t ≡ 8 + 2 * (t / (9 * (sequencesOf y / 2))))
+  pub sound : (y : System) (g : List ℕ) (c t : ℕ) → (soundNamed y g c t ≡ named y g (Paper.soundIndex (sequencesOf y) c t))
+      × (soundBlock y g c t ≡ take 80 (drop (Paper.soundIndex (sequencesOf y) c t * 80) g)) × (byteOf (halfOf y) t ≡ 8 + 2 * (t / (9 * (sequencesOf y / 2))))
   -- "a sample outside -32,768 to 32,768"
   pub range : (n : ℕ) → (inRange (pos n) ≡ leb n 32768) × (inRange (negsuc n) ≡ leb n 32767)
   -- "a sample is a level or it is lost", 32,768 in a slice and 8000h in a block; outside the range there is none
@@ -89,8 +89,8 @@ pub record InNumbers : Type 0 where
   pub levels : (z : ℤ) → inRange z ≡ true → z ≢ pos 32768 → sampleIn z ≡ Sampled (Level z)
   pub no-sample : (z : ℤ) → inRange z ≡ false → sampleIn z ≡ NoSample
   -- "Word 8000h is lost; a level of -32,768 is written 8001h", and comes back as -32,767
-  pub hears : (w : ℕ) → numberOf (sampleOf w) ≡ heard w
-  pub words : (z : ℤ) → inRange z ≡ true → (wordFor z ≡ Paper.wordOf z) × (backOf z ≡ Paper.back z)
+  pub hears : (w : ℕ) → numberOf (sampleOf w) ≡ sampleBy w
+  pub words : (z : ℤ) → inRange z ≡ true → (wordFor z ≡ Paper.wordBy z) × (backOf z ≡ Paper.back z)
   -- what the writer is lent, by its parameters in their order
   pub lends : (count : ℕ) (sound : List ℤ) (macroblocks time group : List ℕ)
       → lent count sound macroblocks time group

@@ -55,21 +55,21 @@ byteAt n f h q p i = getD f (start n h q p + i) 0
 abbrev pub bytesAt : ℕ → List ℕ → ℕ → ℕ → ℕ → ℕ → ℕ → List ℕ
 bytesAt n f h q p i m = take m (drop (start n h q p + i) f)
 
--- figure 3, the 150 places of a sequence: a section's number in an ID, and the block's number in its section
+-- figure 3, the 150 places of a sequence: a section's number in an ID, and the block's number d in its section (Vi is the paper's V)
 abbrev H : ℕ → ℕ × ℕ
-H k = (0, k)
+H d = (0, d)
 
 abbrev SC : ℕ → ℕ × ℕ
-SC k = (1, k)
+SC d = (1, d)
 
 abbrev VA : ℕ → ℕ × ℕ
-VA k = (2, k)
+VA d = (2, d)
 
 abbrev A : ℕ → ℕ × ℕ
-A k = (3, k)
+A d = (3, d)
 
 abbrev Vi : ℕ → ℕ × ℕ
-Vi k = (4, k)
+Vi d = (4, d)
 
 unfoldable pub figure3 : List (ℕ × ℕ)
 figure3 =
@@ -110,15 +110,15 @@ fault b0 b1 b2 h q p = firstOf (
 
 -- ---- blocks counted in stream order: block j of the bytes is block i of the stream
 
-abbrev pub faultOf : ℕ → List ℕ → ℕ → ℕ → ℕ
-faultOf n bytes j i = fault (getD bytes (j * 80) 0) (getD bytes (j * 80 + 1) 0) (getD bytes (j * 80 + 2) 0) (i / 150 / n) (i / 150 % n) (i % 150)
+abbrev pub streamFault : ℕ → List ℕ → ℕ → ℕ → ℕ
+streamFault n bytes j i = fault (getD bytes (j * 80) 0) (getD bytes (j * 80 + 1) 0) (getD bytes (j * 80 + 2) 0) (i / 150 / n) (i / 150 % n) (i % 150)
 
 -- "Survey records are four unsigned 32-bit numbers: channel, sequence, place, fault.": those of m blocks, the first of which is block `first` of the stream
 unfoldable pub records : ℕ → List ℕ → ℕ → ℕ → List ℕ
 records n bytes first m =
     run (λ (j : ℕ).
     let i = first + j in
-    pick (eqb (faultOf n bytes j i) 0) [] (i / 150 / n ∷ i / 150 % n ∷ i % 150 ∷ faultOf n bytes j i ∷ [])) m
+    pick (eqb (streamFault n bytes j i) 0) [] (i / 150 / n ∷ i / 150 % n ∷ i % 150 ∷ streamFault n bytes j i ∷ [])) m
 
 -- ---- sound, with s = n/2
 
@@ -131,25 +131,25 @@ soundFirst n c = n / 2 * ((c + 1) % 2)
 
 -- the block of a position in the stream: "sample t is in sequence (t div 3 + 2(t mod 3)) mod s, plus s for even c; audio block
 -- 3(t mod 3) + (t mod 9s) div 3s"; "place 6+16a is A(a)"
-abbrev pub soundBlock : ℕ → ℕ → ℕ → ℕ
-soundBlock n c t =
+abbrev pub soundIndex : ℕ → ℕ → ℕ → ℕ
+soundIndex n c t =
     (n * soundChannel c + (soundFirst n c + (t / 3 + 2 * (t % 3)) % (n / 2))) * 150 + (6 + 16 * (3 * (t % 3) + t % (9 * (n / 2)) / (3 * (n / 2))))
 
 -- its word: "byte 8 + 2(t div 9s), high byte first"
 abbrev pub soundStart : ℕ → ℕ → ℕ → ℕ
-soundStart n c t = soundBlock n c t * 80 + (8 + 2 * (t / (9 * (n / 2))))
+soundStart n c t = soundIndex n c t * 80 + (8 + 2 * (t / (9 * (n / 2))))
 
 abbrev pub soundWord : ℕ → List ℕ → ℕ → ℕ → ℕ
 soundWord n f c t = getD f (soundStart n c t) 0 * 256 + getD f (soundStart n c t + 1) 0
 
 -- a word as the number of a lent slice: "Word 8000h is lost", 32,768; below it stand the levels from 0 on, above it those from -32,767 to -1
-unfoldable pub heard : ℕ → ℤ
-heard w = pick (leb w 0x8000) (pos w) (negsuc (0xFFFF - w))
+unfoldable pub sampleBy : ℕ → ℤ
+sampleBy w = pick (leb w 0x8000) (pos w) (negsuc (0xFFFF - w))
 
 -- a number as a word: "a level of -32,768 is written 8001h"
-unfoldable pub wordOf : ℤ → ℕ
-wordOf (pos v) = v
-wordOf (negsuc v) = pick (eqb v 32767) 0x8001 (0xFFFF - v)
+unfoldable pub wordBy : ℤ → ℕ
+wordBy (pos v) = v
+wordBy (negsuc v) = pick (eqb v 32767) 0x8001 (0xFFFF - v)
 
 -- and what comes back of it: "a level of -32,768 comes back as -32,767"
 unfoldable pub back : ℤ → ℤ
@@ -212,17 +212,18 @@ holdsGroup n q j = pick (ltb q (n / 2)) (isOneOf (4 ∷ 10 ∷ []) j) false
 abbrev pub slotPlace : ℕ → ℕ
 slotPlace v = 7 + 16 * (v / 15) + v % 15
 
--- "Row is i + (2, 6, 8, 0, 4) by m, modulo 10 or 11; column (2, 1, 3, 0, 4) by m. With R rows the macroblock number is ((R·h + row)·5 + column)·27 + k."
-abbrev pub numbered : ℕ → ℕ → ℕ → ℕ → ℕ → ℕ
-numbered rows h i m k = ((rows * h + (i + getD (2 ∷ 6 ∷ 8 ∷ 0 ∷ 4 ∷ []) m 0) % rows) * 5 + getD (2 ∷ 1 ∷ 3 ∷ 0 ∷ 4 ∷ []) m 0) * 27 + k
+-- "Row is i + (2, 6, 8, 0, 4) by m, modulo 10 or 11; column (2, 1, 3, 0, 4) by m. With R rows the macroblock number is ((R·h + row)·5 + column)·27 + k.":
+-- k is the paper's here, and no system
+abbrev pub slotNumber : ℕ → ℕ → ℕ → ℕ → ℕ → ℕ
+slotNumber rows h i m k = ((rows * h + (i + getD (2 ∷ 6 ∷ 8 ∷ 0 ∷ 4 ∷ []) m 0) % rows) * 5 + getD (2 ∷ 1 ∷ 3 ∷ 0 ∷ 4 ∷ []) m 0) * 27 + k
 
 -- "Ten-row systems 0, 2, 3, q below 10: i = (4h + q div 5 + 2z) mod 10, k = (z div 5) mod 27."
 abbrev pub tenRows : ℕ → ℕ → ℕ → ℕ → ℕ
-tenRows h q g m = numbered 10 h ((4 * h + q / 5 + 2 * (27 * q + g)) % 10) m ((27 * q + g) / 5 % 27)
+tenRows h q g m = slotNumber 10 h ((4 * h + q / 5 + 2 * (27 * q + g)) % 10) m ((27 * q + g) / 5 % 27)
 
 -- "System 1, q below 11: i = (4h + z) mod 11, k = z div 11."
 abbrev pub elevenRows : ℕ → ℕ → ℕ → ℕ → ℕ
-elevenRows h q g m = numbered 11 h ((4 * h + (27 * q + g)) % 11) m ((27 * q + g) / 11)
+elevenRows h q g m = slotNumber 11 h ((4 * h + (27 * q + g)) % 11) m ((27 * q + g) / 11)
 
 -- "Sequence 11 of channel 0 in system 1 is the edge unit: number 5,940 + 27m + g. Remaining slots (system 1: sequence 11 of channels 1-3; system 3:
 -- sequences 10, 11) carry none"

@@ -9,7 +9,7 @@ use lib.Dec.{eqb}
 use lib.IntN.{ℤ, pos, negsuc}
 use lib.ListN.{length, getD}
 use Rattle.base.specs.Pick.{pick}
-use Rattle.rules.specs.Paper.{sequences, positions, fewer, more, macroblocks, rate, stype, lastFrame, byteAt, faultOf, fault, soundChannel, soundFirst}
+use Rattle.rules.specs.Paper.{sequences, positions, fewer, more, macroblocks, rate, stype, lastFrame, byteAt, streamFault, fault, soundChannel, soundFirst}
 use Rattle.rules.specs.Paper.{asPlace, countBy, countSaid, vauxPlace, vauxByte, vsPack, ssybPlace, ssybByte, holdsTime, holdsGroup}
 use Rattle.rules.specs.Written.{Lent}
 
@@ -38,8 +38,8 @@ none r = r ≡ 0
 pub record FirstFault (n : ℕ) (f : List ℕ) (r : ℕ) : Type 0 where
   pub j : ℕ
   pub within : j < 600 * n
-  pub before : (i : ℕ) → i < j → faultOf n f i i ≡ 0
-  pub is : r ≡ faultOf n f j j
+  pub before : (i : ℕ) → i < j → streamFault n f i i ≡ 0
+  pub is : r ≡ streamFault n f j j
   pub some : r ≢ 0
 
 -- "its own block's 11-15"
