@@ -45,9 +45,9 @@ fn write_video(
         Carried::Macroblock(b) => {
             let at = 77 * (b as usize);
             let to = at + 77;
-            copy_macroblock(&mut block[3..80], &macroblocks[at..to]);
+            copy_macroblock(&mut block[3..BLOCK], &macroblocks[at..to]);
         }
-        Carried::Nothing => base::fill(&mut block[3..80], 0xFF),
+        Carried::Nothing => base::fill(&mut block[3..BLOCK], 0xFF),
     }
 }
 
