@@ -13,7 +13,7 @@ use mir.Val.{Fits}
 use borrow.Author.Tests.{eq-eqb, lt-ltb}
 use borrow.Rule.Slice.PartMut.{putMid, postOf}
 use Rattle.base.specs.Pick.{pick}
-use Rattle.base.specs.Run.{run, Wide}
+use Rattle.base.specs.Run.{run}
 use Rattle.base.proofs.Cases.{by-lt}
 use Rattle.base.proofs.Picks.{pick-true}
 use Rattle.base.proofs.Runs.{end-within, run-zero, run-more, run-same, run-split, length-run}
