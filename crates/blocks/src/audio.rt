@@ -17,6 +17,7 @@ use crate::parts;
 use layout::BLOCK;
 use layout::CHANNELS;
 use rules::BlockId;
+use rules::BlockNumber;
 use rules::System;
 
 // The word of sample t of an audio channel; 0 from the count on.
@@ -78,17 +79,17 @@ fn write_audio(
     macroblocks: &[u8],
     time: &[u8],
     group: &[u8],
-    a: u32,
+    a: BlockNumber,
 )
-    requires { ⌜ AudioAsked (now block) y h q count (now sound) a ⌝ }
-    ensures { λ _. ⌜ now (block .exit) ≡ idBytes id ++ audioBytes y (lent count (now (sound .entry)) (now (macroblocks .entry)) (now (time .entry)) (now (group .entry))) h q a ⌝ }
+    requires { ⌜ AudioAsked (now block) y h q count (now sound) (a .0) ⌝ }
+    ensures { λ _. ⌜ now (block .exit) ≡ idBytes id ++ audioBytes y (lent count (now (sound .entry)) (now (macroblocks .entry)) (now (time .entry)) (now (group .entry))) h q (a .0) ⌝ }
 {
     let s = layout::half(y);
     let c = audio_at(s, h, q);
     parts::put_id(&mut block[0..3], id);
-    parts::put_pack(&mut block[3..8], packs::aaux_pack(y, count, c, q, a));
+    parts::put_pack(&mut block[3..8], packs::aaux_pack(y, count, c, q, a.0));
     put_words(
-        &mut block[8..80],
+        &mut block[8..BLOCK],
         samples_of(sound, c, count),
         sound::first_at(y, q, a) as usize,
         9 * (s as usize),
@@ -96,10 +97,18 @@ fn write_audio(
 }
 
 // What is lent fits the system.
-fn audio_fits(size: usize, y: System, h: u32, q: u32, count: u32, samples: usize, a: u32) -> bool
-    ensures { λ r. ⌜ r ≡ audioFits size y h q count samples a ⌝ }
+fn audio_fits(
+    size: usize,
+    y: System,
+    h: u32,
+    q: u32,
+    count: u32,
+    samples: usize,
+    a: BlockNumber,
+) -> bool
+    ensures { λ r. ⌜ r ≡ audioFits size y h q count samples (a .0) ⌝ }
 {
-    ((size == BLOCK) & (a < 9))
+    ((size == BLOCK) & (a.0 < 9))
         & (((h < CHANNELS) & (q < layout::sequences(y)))
             & (layout::is_count(y, count) & (samples == 8 * (count as usize))))
 }
@@ -116,9 +125,9 @@ pub fn put_audio(
     macroblocks: &[u8],
     time: &[u8],
     group: &[u8],
-    a: u32,
+    a: BlockNumber,
 )
-    ensures { λ _. ⌜ now (block .exit) ≡ pick (audioFits (length (now (block .entry))) y h q count (length (now (sound .entry))) a) (idBytes id ++ audioBytes y (lent count (now (sound .entry)) (now (macroblocks .entry)) (now (time .entry)) (now (group .entry))) h q a) (now (block .entry)) ⌝ }
+    ensures { λ _. ⌜ now (block .exit) ≡ pick (audioFits (length (now (block .entry))) y h q count (length (now (sound .entry))) (a .0)) (idBytes id ++ audioBytes y (lent count (now (sound .entry)) (now (macroblocks .entry)) (now (time .entry)) (now (group .entry))) h q (a .0)) (now (block .entry)) ⌝ }
 {
     let fits = audio_fits(block.len(), y, h, q, count, sound.len(), a);
     if fits {

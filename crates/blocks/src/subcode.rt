@@ -11,6 +11,7 @@ ghost use Rattle.blocks.specs.Fits.{numberFits};
 use crate::parts;
 use layout::BLOCK;
 use rules::BlockId;
+use rules::BlockNumber;
 use rules::Pack;
 
 // ID0 of an SSYB: FR, and ones.
@@ -32,10 +33,11 @@ fn put_ssyb(part: &mut [u8], first: bool, time: Pack, group: Pack, k: u32)
 }
 
 // The six SSYBs of SC(k).
-fn put_ssybs(part: &mut [u8], first: bool, time: Pack, group: Pack, k: u32)
-    requires { ⌜ SsybsAsked (now part) k ⌝ }
-    ensures { λ _. ⌜ now (part .exit) ≡ ssybs first time group k ⌝ }
+fn put_ssybs(part: &mut [u8], first: bool, time: Pack, group: Pack, number: BlockNumber)
+    requires { ⌜ SsybsAsked (now part) (number .0) ⌝ }
+    ensures { λ _. ⌜ now (part .exit) ≡ ssybs first time group (number .0) ⌝ }
 {
+    let k = number.0;
     let mut j: u32 = 0;
     while j < 6 {
         let at = (j as usize) * 8;
@@ -45,9 +47,16 @@ fn put_ssybs(part: &mut [u8], first: bool, time: Pack, group: Pack, k: u32)
     }
 }
 
-fn write_subcode(block: &mut [u8], id: BlockId, first: bool, time: &[u8], group: &[u8], k: u32)
-    requires { ⌜ NumberAsked (now block) k 2 ⌝ }
-    ensures { λ _. ⌜ now (block .exit) ≡ idBytes id ++ subcodeBytes first (timePack (now (time .entry))) (groupPack (now (group .entry))) k ⌝ }
+fn write_subcode(
+    block: &mut [u8],
+    id: BlockId,
+    first: bool,
+    time: &[u8],
+    group: &[u8],
+    k: BlockNumber,
+)
+    requires { ⌜ NumberAsked (now block) (k .0) 2 ⌝ }
+    ensures { λ _. ⌜ now (block .exit) ≡ idBytes id ++ subcodeBytes first (timePack (now (time .entry))) (groupPack (now (group .entry))) (k .0) ⌝ }
 {
     base::fill(block, 0xFF);
     parts::put_id(&mut block[0..3], id);
@@ -61,10 +70,17 @@ fn write_subcode(block: &mut [u8], id: BlockId, first: bool, time: &[u8], group:
 }
 
 // SC(k) of any part; one that is no block, or not that of k, stays as it is.
-pub fn put_subcode(block: &mut [u8], id: BlockId, first: bool, time: &[u8], group: &[u8], k: u32)
-    ensures { λ _. ⌜ now (block .exit) ≡ pick (numberFits (length (now (block .entry))) k 2) (idBytes id ++ subcodeBytes first (timePack (now (time .entry))) (groupPack (now (group .entry))) k) (now (block .entry)) ⌝ }
+pub fn put_subcode(
+    block: &mut [u8],
+    id: BlockId,
+    first: bool,
+    time: &[u8],
+    group: &[u8],
+    k: BlockNumber,
+)
+    ensures { λ _. ⌜ now (block .exit) ≡ pick (numberFits (length (now (block .entry))) (k .0) 2) (idBytes id ++ subcodeBytes first (timePack (now (time .entry))) (groupPack (now (group .entry))) (k .0)) (now (block .entry)) ⌝ }
 {
-    let fits = (block.len() == BLOCK) & (k < 2);
+    let fits = (block.len() == BLOCK) & (k.0 < 2);
     if fits {
         write_subcode(block, id, first, time, group, k);
     }

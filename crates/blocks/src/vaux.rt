@@ -10,13 +10,15 @@ ghost use Rattle.blocks.specs.Fits.{numberFits};
 use crate::parts;
 use layout::BLOCK;
 use rules::BlockId;
+use rules::BlockNumber;
 use rules::System;
 
 // The fifteen packs of VA(k).
-fn put_packs(part: &mut [u8], y: System, q: u32, k: u32)
-    requires { ⌜ PacksAsked (now part) k ⌝ }
-    ensures { λ _. ⌜ now (part .exit) ≡ vauxPacks y q k ⌝ }
+fn put_packs(part: &mut [u8], y: System, q: u32, number: BlockNumber)
+    requires { ⌜ PacksAsked (now part) (number .0) ⌝ }
+    ensures { λ _. ⌜ now (part .exit) ≡ vauxPacks y q (number .0) ⌝ }
 {
+    let k = number.0;
     let mut j: u32 = 0;
     while j < 15 {
         let at = (j as usize) * 5;
@@ -26,9 +28,9 @@ fn put_packs(part: &mut [u8], y: System, q: u32, k: u32)
     }
 }
 
-fn write_vaux(block: &mut [u8], id: BlockId, y: System, q: u32, k: u32)
-    requires { ⌜ NumberAsked (now block) k 3 ⌝ }
-    ensures { λ _. ⌜ now (block .exit) ≡ idBytes id ++ vauxBytes y q k ⌝ }
+fn write_vaux(block: &mut [u8], id: BlockId, y: System, q: u32, k: BlockNumber)
+    requires { ⌜ NumberAsked (now block) (k .0) 3 ⌝ }
+    ensures { λ _. ⌜ now (block .exit) ≡ idBytes id ++ vauxBytes y q (k .0) ⌝ }
 {
     base::fill(block, 0xFF);
     parts::put_id(&mut block[0..3], id);
@@ -36,10 +38,10 @@ fn write_vaux(block: &mut [u8], id: BlockId, y: System, q: u32, k: u32)
 }
 
 // VA(k) of any part; one that is no block, or not that of k, stays as it is.
-pub fn put_vaux(block: &mut [u8], id: BlockId, y: System, q: u32, k: u32)
-    ensures { λ _. ⌜ now (block .exit) ≡ pick (numberFits (length (now (block .entry))) k 3) (idBytes id ++ vauxBytes y q k) (now (block .entry)) ⌝ }
+pub fn put_vaux(block: &mut [u8], id: BlockId, y: System, q: u32, k: BlockNumber)
+    ensures { λ _. ⌜ now (block .exit) ≡ pick (numberFits (length (now (block .entry))) (k .0) 3) (idBytes id ++ vauxBytes y q (k .0)) (now (block .entry)) ⌝ }
 {
-    let fits = (block.len() == BLOCK) & (k < 3);
+    let fits = (block.len() == BLOCK) & (k.0 < 3);
     if fits {
         write_vaux(block, id, y, q, k);
     }

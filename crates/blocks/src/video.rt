@@ -11,6 +11,7 @@ ghost use Rattle.blocks.specs.Fits.{videoFits};
 use crate::parts;
 use layout::BLOCK;
 use rules::BlockId;
+use rules::BlockNumber;
 use rules::Carried;
 use rules::System;
 
@@ -27,18 +28,26 @@ fn copy_macroblock(part: &mut [u8], from: &[u8])
     part[76] = from[76];
 }
 
-fn write_video(block: &mut [u8], id: BlockId, y: System, h: u32, q: u32, macroblocks: &[u8], v: u32)
+fn write_video(
+    block: &mut [u8],
+    id: BlockId,
+    y: System,
+    h: u32,
+    q: u32,
+    macroblocks: &[u8],
+    v: BlockNumber,
+)
     requires { ⌜ VideoAsked (now block) y (now macroblocks) ⌝ }
-    ensures { λ _. ⌜ now (block .exit) ≡ idBytes id ++ carriedBytes (now (macroblocks .entry)) (carriedIn y (slot h q v)) ⌝ }
+    ensures { λ _. ⌜ now (block .exit) ≡ idBytes id ++ carriedBytes (now (macroblocks .entry)) (carriedIn y (slot h q (v .0))) ⌝ }
 {
     parts::put_id(&mut block[0..3], id);
     match picture::carried(y, h, q, v) {
         Carried::Macroblock(b) => {
             let at = 77 * (b as usize);
             let to = at + 77;
-            copy_macroblock(&mut block[3..80], &macroblocks[at..to]);
+            copy_macroblock(&mut block[3..BLOCK], &macroblocks[at..to]);
         }
-        Carried::Nothing => base::fill(&mut block[3..80], 0xFF),
+        Carried::Nothing => base::fill(&mut block[3..BLOCK], 0xFF),
     }
 }
 
@@ -57,9 +66,9 @@ pub fn put_video(
     h: u32,
     q: u32,
     macroblocks: &[u8],
-    v: u32,
+    v: BlockNumber,
 )
-    ensures { λ _. ⌜ now (block .exit) ≡ pick (videoFits (length (now (block .entry))) y (length (now (macroblocks .entry)))) (idBytes id ++ carriedBytes (now (macroblocks .entry)) (carriedIn y (slot h q v))) (now (block .entry)) ⌝ }
+    ensures { λ _. ⌜ now (block .exit) ≡ pick (videoFits (length (now (block .entry))) y (length (now (macroblocks .entry)))) (idBytes id ++ carriedBytes (now (macroblocks .entry)) (carriedIn y (slot h q (v .0)))) (now (block .entry)) ⌝ }
 {
     let fits = video_fits(block.len(), y, macroblocks.len());
     if fits {

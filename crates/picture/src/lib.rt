@@ -58,10 +58,11 @@ fn number(row: u32, column: u32, k: u32) -> u32
     (row * 5 + column) * 27 + k
 }
 
-fn ten_carries(h: u32, q: u32, v: u32) -> Carried
-    requires { ⌜ (h < 4) × (v < 135) ⌝ }
-    ensures { λ r. ⌜ r ≡ tenCarries h q v ⌝ }
+fn ten_carries(h: u32, q: u32, video: BlockNumber) -> Carried
+    requires { ⌜ (h < 4) × (video .0 < 135) ⌝ }
+    ensures { λ r. ⌜ r ≡ tenCarries h q (video .0) ⌝ }
 {
+    let v = video.0;
     if q < 10 {
         let m = v % 5;
         let z = 27 * q + v / 5;
@@ -72,10 +73,11 @@ fn ten_carries(h: u32, q: u32, v: u32) -> Carried
 }
 
 // Eleven rows, then the edge unit in sequence 11 of DIF channel 0.
-fn eleven_carries(h: u32, q: u32, v: u32) -> Carried
-    requires { ⌜ (h < 4) × (v < 135) ⌝ }
-    ensures { λ r. ⌜ r ≡ elevenCarries h q v ⌝ }
+fn eleven_carries(h: u32, q: u32, video: BlockNumber) -> Carried
+    requires { ⌜ (h < 4) × (video .0 < 135) ⌝ }
+    ensures { λ r. ⌜ r ≡ elevenCarries h q (video .0) ⌝ }
 {
+    let v = video.0;
     if q < 11 {
         let m = v % 5;
         let z = 27 * q + v / 5;
@@ -103,23 +105,23 @@ fn eleven_rows(y: System) -> bool
     }
 }
 
-fn rows(y: System, h: u32, q: u32, v: u32) -> Carried
-    requires { ⌜ (h < 4) × (v < 135) ⌝ }
-    ensures { λ r. ⌜ r ≡ carriesOf y h q v ⌝ }
+fn rows(y: System, h: u32, q: u32, video: BlockNumber) -> Carried
+    requires { ⌜ (h < 4) × (video .0 < 135) ⌝ }
+    ensures { λ r. ⌜ r ≡ carriesOf y h q (video .0) ⌝ }
 {
     if eleven_rows(y) {
-        return eleven_carries(h, q, v);
+        return eleven_carries(h, q, video);
     }
-    ten_carries(h, q, v)
+    ten_carries(h, q, video)
 }
 
-// What slot V(v) of sequence q of DIF channel h carries.
-pub fn carried(y: System, h: u32, q: u32, v: u32) -> Carried
-    ensures { λ r. ⌜ r ≡ carriedIn y (slot h q v) ⌝ }
+// What the slot of a video block of sequence q of DIF channel h carries.
+pub fn carried(y: System, h: u32, q: u32, video: BlockNumber) -> Carried
+    ensures { λ r. ⌜ r ≡ carriedIn y (slot h q (video .0)) ⌝ }
 {
     if h < 4 {
-        if v < 135 {
-            return rows(y, h, q, v);
+        if video.0 < 135 {
+            return rows(y, h, q, video);
         }
         return Carried::Nothing;
     }

@@ -1,5 +1,6 @@
 // Every row that the Recommendation's tables 22 to 24 print. A line: the table, the system, DIF channel, DIF sequence and
 // V number; where the slot carries a macroblock, h, i, j and k of its CM, and 1 if that macroblock lies in this slot.
+use rules::BlockNumber;
 use rules::Carried;
 use rules::Carrier;
 use rules::System;
@@ -64,7 +65,7 @@ fn row(table: &[u8], y: System, h: u32, q: u32, v: u32) {
     lines::field(h);
     lines::field(q);
     lines::field(v);
-    match picture::carried(y, h, q, v) {
+    match picture::carried(y, h, q, BlockNumber(v)) {
         Carried::Macroblock(b) => {
             cm(y, b);
             lines::field(lies(y, b, h, q, v));

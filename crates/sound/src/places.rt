@@ -4,20 +4,22 @@ ghost use Prim.Native.Nat.{_*_, _%_, _<_};
 ghost use Rattle.rules.specs.Systems.{halfOf};
 ghost use Rattle.rules.specs.Sound.{rowAt, firstAt};
 ghost use Rattle.sound.specs.Asked.{First};
+use rules::BlockNumber;
 use rules::System;
 
-// The first sample of audio block a of row r.
-fn first_of(s: u32, r: u32, a: u32) -> u32
-    requires { ⌜ First s r a ⌝ }
-    ensures { λ t. ⌜ t ≡ firstAt s r a ⌝ }
+// The first sample of an audio block of row r.
+fn first_of(s: u32, r: u32, audio: BlockNumber) -> u32
+    requires { ⌜ First s r (audio .0) ⌝ }
+    ensures { λ t. ⌜ t ≡ firstAt s r (audio .0) ⌝ }
 {
+    let a = audio.0;
     3 * s * (a % 3) + 3 * ((r + 2 * s - 2 * (a / 3)) % s) + a / 3
 }
 
 // The first sample of an audio block of sequence q; its others follow 9s apart.
-pub fn first_at(y: System, q: u32, audio: u32) -> u32
-    ensures { λ t. ⌜ t ≡ firstAt (halfOf y) (rowAt (halfOf y) q) (audio % 9) ⌝ }
+pub fn first_at(y: System, q: u32, audio: BlockNumber) -> u32
+    ensures { λ t. ⌜ t ≡ firstAt (halfOf y) (rowAt (halfOf y) q) (audio .0 % 9) ⌝ }
 {
     let s = layout::half(y);
-    first_of(s, q % s, audio % 9)
+    first_of(s, q % s, BlockNumber(audio.0 % 9))
 }

@@ -43,13 +43,13 @@ fn put_words(block: &[u8], named: bool, first: usize, step: usize, samples: &mut
 }
 
 // Audio block a of sequence q of DIF channel h.
-fn take_block(block: &[u8], y: System, h: u32, q: u32, a: u32, samples: &mut [i32])
-    requires { ⌜ BlockAsked (now block) y a (length (now samples)) ⌝ }
-    ensures { λ _. ⌜ Between (halfOf y) (9 * rowAt (halfOf y) q + a) (9 * rowAt (halfOf y) q + a + 1) (heldBlock (halfOf y) (now (block .entry)) h q) (now (samples .entry)) (now (samples .exit)) ⌝ }
+fn take_block(block: &[u8], y: System, h: u32, q: u32, a: BlockNumber, samples: &mut [i32])
+    requires { ⌜ BlockAsked (now block) y (a .0) (length (now samples)) ⌝ }
+    ensures { λ _. ⌜ Between (halfOf y) (9 * rowAt (halfOf y) q + a .0) (9 * rowAt (halfOf y) q + a .0 + 1) (heldBlock (halfOf y) (now (block .entry)) h q) (now (samples .entry)) (now (samples .exit)) ⌝ }
 {
     let entry = Entry {
         section: Section::Audio,
-        number: BlockNumber(a),
+        number: a,
     };
     let named = faults::names_entry(block, h, q, entry);
     let first = sound::first_at(y, q, a) as usize;
@@ -66,7 +66,7 @@ fn take_part(part: &[u8], y: System, h: u32, q: u32, samples: &mut [i32])
     while a < 9 {
         let p = layout::place_in(Section::Audio, BlockNumber(a));
         let at = p.0 as usize * BLOCK;
-        take_block(&part[at..at + BLOCK], y, h, q, a, samples);
+        take_block(&part[at..at + BLOCK], y, h, q, BlockNumber(a), samples);
         a += 1;
     }
 }

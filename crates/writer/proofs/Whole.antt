@@ -1,44 +1,50 @@
 -- Each way out of the writers of a block, a sequence, a DIF channel and the frame, and of the call. Assumes nothing.
-use mathlib.Core.Path.{_≡_, refl, sym, ap, ap₂, _∙_}
+use mathlib.Core.Path.{_≡_, refl, sym, ap, ap₂, _∙_, subst}
 use mathlib.Core.Bool.{Bool, true}
 use mathlib.Core.List.{List, [], _++_, append-nil, append-assoc}
-use Prim.Native.Nat.{ℕ, _+_, _-_, _*_, _/_, _%_, _≤_, _<_}
+use Prim.Native.Nat.{ℕ, _+_, _-_, _*_, _≤_, _<_}
 use native.Mathlib.Omega.{arith}
 use lib.Dec.{eqb, ltb}
 use lib.IntN.{ℤ}
-use lib.ListN.{length, take, drop, drop-of-length-le, length-append}
-use lib.Seq.{take-at, drop-at, drop-drop}
-use mir.Syntax.{w64}
+use lib.ListN.{length, take, drop, drop-of-length-le, length-append, length-drop}
+use lib.Seq.{take-at, drop-at, drop-drop, take-all, length-take-le}
+use mir.Syntax.{w32, w64}
 use mir.Val.{Fits}
 use borrow.Author.Tests.{eq-eqb, lt-ltb}
 use borrow.Rule.Slice.PartMut.{putMid, postOf}
 use Rattle.base.specs.Pick.{pick}
-use Rattle.base.specs.Run.{run, Wide}
+use Rattle.base.specs.Run.{run}
+use Rattle.base.proofs.Cases.{by-lt}
 use Rattle.base.proofs.Picks.{pick-true}
-use Rattle.base.proofs.Runs.{end-within, run-same, run-split, run-rows, length-run}
+use Rattle.base.proofs.Runs.{end-within, run-zero, run-more, run-same, run-split, length-run}
 use Rattle.base.proofs.Filling.{Filled, filled-none, filled-next, filled-end}
 use Rattle.base.proofs.Parts.{length-part, range-part}
 use Rattle.rules.specs.declared.System.{System}
 use Rattle.rules.specs.declared.SystemNumber.{SystemNumber}
 use Rattle.rules.specs.declared.SystemNumber.the-variants.{Known, NoSystem}
+use Rattle.rules.specs.declared.Section.{Section}
 use Rattle.rules.specs.declared.Section.the-variants.{Header, Subcode, Vaux, Audio, Video}
+use Rattle.rules.specs.declared.BlockNumber.{BlockNumber}
+use Rattle.rules.specs.declared.Place.{Place}
+use Rattle.rules.specs.declared.Entry.{Entry}
 use Rattle.rules.specs.declared.BlockId.{BlockId}
 use Rattle.rules.specs.Systems.{sequencesOf, halfOf, systemOf}
-use Rattle.rules.specs.Places.{placeIn}
+use Rattle.rules.specs.Places.{blocksOf, place, block, entryAt, placeIn, placeFor}
 use Rattle.rules.specs.Ids.{idBytes, idOf}
 use Rattle.rules.specs.Header.{headerBytes}
 use Rattle.rules.specs.TimeCode.{timePack, groupPack}
 use Rattle.rules.specs.Subcode.{subcodeBytes}
 use Rattle.rules.specs.Vaux.{vauxBytes}
 use Rattle.rules.specs.Picture.{slot, carriedIn}
-use Rattle.rules.specs.Written.{Lent, audioBytes, carriedBytes, videoBytes, payload, writtenBlock, writtenSequence, writtenChannel, writtenFrame}
+use Rattle.rules.specs.Written.{Lent, audioBytes, carriedBytes, videoBytes, payload, entryBlock, writtenBlock, writtenSequence, writtenChannel, writtenFrame}
 use Rattle.rules.specs.Write.{lent, writeNumber, Wrote}
 use Rattle.rules.proofs.Systems.{sequences-le}
-use Rattle.rules.proofs.Written.{block-entry, block-wide, sequence-wide, channel-wide}
+use Rattle.rules.proofs.Places.{place-in-below, entry-place-in, place-for, place-for-past}
+use Rattle.rules.proofs.Written.{entry-block-length, block-entry, block-wide, sequence-wide, channel-wide}
 use Rattle.rules.proofs.Write.{write-1, taken-takes, write-stopped, write-done}
 use Rattle.blocks.specs.Fits.{numberFits, audioFits, videoFits}
-use Rattle.writer.specs.Asked.{PartAsked, RowAsked, ChannelPartAsked, FrameAsked}
-use Rattle.writer.specs.Rows.{subcodeBlocks, headBlocks, vauxBlocks, rowVideo, rowBlocks, allRows}
+use Rattle.writer.specs.Asked.{PartAsked, Begun, RowAsked, VideosAsked, ChannelPartAsked, FrameAsked}
+use Rattle.writer.specs.Rows.{videoBlocks, rowBlocks}
 
 -- ---- two parts that are lent one after the other
 
@@ -46,17 +52,6 @@ two-parts : (n m : ℕ) (zs rs xs : List ℕ) → length zs ≡ n → length xs 
 two-parts n m zs rs xs ez ex =
     let rest : drop m (drop n xs) ≡ [] = drop-drop m n xs ∙ drop-of-length-le xs {i = n + m} (omega (arith, ex)) in
     rw (take-at zs (drop n xs) n ez, drop-at zs (drop n xs) n ez, rest, append-nil) refl
-
-three-parts : (zs vs rs xs : List ℕ) → length zs ≡ 240 → length vs ≡ 240 → length xs ≡ 12000
-    → putMid 480 11520 (putMid 240 240 (zs ++ postOf 0 240 xs) vs) rs ≡ zs ++ (vs ++ rs)
-three-parts zs vs rs xs ez ev ex =
-    let far : drop 240 (drop 240 xs) ≡ drop 480 xs = drop-drop 240 240 xs in
-    let rest : drop 11520 (drop 480 xs) ≡ [] = drop-drop 11520 480 xs ∙ drop-of-length-le xs {i = 12000} (omega (arith, ex)) in
-    let both : length (zs ++ vs) ≡ 480 = length-append zs vs ∙ omega arith in
-    let two : putMid 240 240 (zs ++ postOf 0 240 xs) vs ≡ (zs ++ vs) ++ drop 480 xs =
-    rw (take-at zs (drop 240 xs) 240 ez, drop-at zs (drop 240 xs) 240 ez, far) (sym (append-assoc zs vs (drop 480 xs))) in
-    ap (λ (b : List ℕ). putMid 480 11520 b rs) two
-    ∙ rw (take-at (zs ++ vs) (drop 480 xs) 480 both, drop-at (zs ++ vs) (drop 480 xs) 480 both, rest, append-nil) (append-assoc zs vs rs)
 
 -- ---- what fits is written
 
@@ -66,188 +61,225 @@ written b ws ps zs e ez = ez ∙ pick-true ws ps e
 number-fits : (n k m : ℕ) → n ≡ 80 → k < m → numberFits n k m ≡ true
 number-fits n k m e l = rw (eq-eqb _ _ e, lt-ltb _ _ l) refl
 
--- block k of a part of m bytes
-block-long : (xs : List ℕ) (k m : ℕ) → length xs ≡ m → k * 80 + 80 ≤ m → length (take (k * 80 + 80 - k * 80) (drop (k * 80) xs)) ≡ 80
-block-long xs k m e l = ap length (range-part (k * 80) 80 xs) ∙ length-part (k * 80) 80 xs (omega (arith, e))
+-- the part of m bytes from byte a on
+part-long : (xs : List ℕ) (a m : ℕ) → a + m ≤ length xs → length (take (a + m - a) (drop a xs)) ≡ m
+part-long xs a m l = ap length (range-part a m xs) ∙ length-part a m xs l
 
-step : (a j : ℕ) → 6 + 16 * a + (1 + j) ≡ 7 + 16 * a + j
-step a j = omega arith
+-- a part that comes back as long as it went
+put-long : (xs ys : List ℕ) (a m : ℕ) → length xs ≡ 12000 → length ys ≡ m → a + m ≤ 12000 → length (putMid a (a + m - a) xs ys) ≡ 12000
+put-long xs ys a m ex ey le =
+    let zs = drop (a + m - a) (drop a xs) in
+    let before : length (take a xs) ≡ a = length-take-le a xs (omega (arith, ex)) in
+    length-append (take a xs) (ys ++ zs) ∙ omega (arith, length-append ys zs, length-drop (a + m - a) (drop a xs), length-drop a xs, before, ex, ey)
 
-row-place : (k : ℕ) → 3 + (3 + k) ≡ 6 + 16 * (k / 16) + k % 16
-row-place k = omega arith
+-- ---- where a block stands: p is the place of block k of section s
 
-head-long : (y : System) (l : Lent) (h q : ℕ) → length (headBlocks y l h q) ≡ 240
-unfolding headBlocks
-head-long y l h q = length-run 80 (writtenBlock y l h q) (block-wide y l h q) 3
+module _ (s : Section) (k : ℕ) (p : Place) (ep : p ≡ placeFor s (record { 0 = k })) (hk : k < blocksOf s) where
+  stands : p .0 ≡ placeIn s k
+  stands = ap (λ (x : Place). x .0) (ep ∙ place-for s _ hk)
 
-vaux-long : (y : System) (l : Lent) (h q : ℕ) → length (vauxBlocks y l h q) ≡ 240
-unfolding vauxBlocks
-vaux-long y l h q = length-run 80 (λ (k : ℕ). writtenBlock y l h q (3 + k)) (λ k. block-wide y l h q (3 + k)) 3
+  stands-within : p .0 < 150
+  stands-within = omega (arith, stands, place-in-below s k hk)
 
--- ---- a block where it stands, by what its section's writer left
+  pub block-ends : (xs : List ℕ) → length xs ≡ 12000 → p .0 * 80 + 80 ≤ length xs
+  block-ends xs e = omega (arith, e, stands-within)
+
+-- every place that the rule gives, and the one behind it
+pub behind-fits : (s : Section) (k : BlockNumber) (p : Place) → p ≡ placeFor s k → Fits w32 (p .0 + 1)
+behind-fits s k p ep =
+    by-lt (k .0) (blocksOf s)
+    (λ h. omega (arith, stands-within s (k .0) p ep h))
+    (λ h. omega (arith, ap (λ (x : Place). x .0) (ep ∙ place-for-past s k h)))
+
+pub behind-is : (s : Section) (k : BlockNumber) (p : Place) (e : Entry) → p ≡ placeFor s k → e ≡ entryAt (place (p .0 + 1)) → e .number ≡ entryAt (place (placeFor s k .0 + 1)) .number
+behind-is s k p e ep ee = ap (λ (x : Entry). x .number) ee ∙ ap (λ (x : Place). entryAt (place (x .0 + 1)) .number) ep
+
+-- ---- a sequence in stream order
 
 module _ (y : System) (h q count : ℕ) (sound : List ℤ) (macroblocks time group : List ℕ) where
   abbrev l : Lent
   l = lent count sound macroblocks time group
 
-  module _ (zs : List ℕ) (i : BlockId) where
-    header-at : i ≡ idOf h q Header 0 → zs ≡ idBytes i ++ headerBytes y → zs ≡ writtenBlock y l h q 0
-    unfolding payload
-    header-at ei ez = ez ∙ rw ei (sym (block-entry y l h q Header 0 (omega arith)))
+  -- the places up to r are written, where m bytes come back from place p on
+  begun-on : (xs ys : List ℕ) (p r m : ℕ) → Begun xs y h q l p → run (writtenBlock y l h q) r ≡ run (writtenBlock y l h q) p ++ ys → length ys ≡ m → p * 80 + m ≤ 12000
+      → Begun (putMid (p * 80) (p * 80 + m - p * 80) xs ys) y h q l r
+  begun-on xs ys p r m b er n le =
+      let f : ℕ → List ℕ = writtenBlock y l h q in
+      let w = b .whole in
+      let zs = drop (p * 80 + m - p * 80) (drop (p * 80) xs) in
+      let e : take (p * 80) xs ++ (ys ++ zs) ≡ run f r ++ zs = ap (λ (x : List ℕ). x ++ (ys ++ zs)) (b .is) ∙ sym (append-assoc (run f p) ys zs) ∙ ap (λ (x : List ℕ). x ++ zs) (sym er) in
+      record {
+        whole = record { long = put-long xs ys (p * 80) m (w .long) n le; channel = w .channel; sequence = w .sequence; lengths = w .lengths };
+        is = ap (take (r * 80)) e ∙ take-at (run f r) zs (r * 80) (length-run 80 f (block-wide y l h q) r);
+      }
 
-    subcode-at : (k s : ℕ) → k < 2 → s ≡ halfOf y → i ≡ idOf h q Subcode k → zs ≡ idBytes i ++ subcodeBytes (ltb q s) (timePack time) (groupPack group) k → zs ≡ writtenBlock y l h q (1 + k)
-    unfolding payload
-    subcode-at k s hk es ei ez = ez ∙ rw (ei, es) (sym (block-entry y l h q Subcode k hk))
+  begun-none : (xs : List ℕ) → PartAsked xs 12000 y h q l → Begun xs y h q l 0
+  begun-none xs asked = record { whole = asked; is = sym (run-zero (writtenBlock y l h q)) }
 
-    vaux-at : (k : ℕ) → k < 3 → i ≡ idOf h q Vaux k → zs ≡ idBytes i ++ vauxBytes y q k → zs ≡ writtenBlock y l h q (3 + k)
-    unfolding payload
-    vaux-at k hk ei ez = ez ∙ rw ei (sym (block-entry y l h q Vaux k hk))
+  -- one block more
+  module _ (s : Section) (k : ℕ) (p : Place) (ep : p ≡ placeFor s (record { 0 = k })) (hk : k < blocksOf s) (xs : List ℕ) (b : Begun xs y h q l (placeIn s k)) where
+    block-on : (ys : List ℕ) (i : BlockId) (r : ℕ) → i ≡ idOf h q s k → ys ≡ idBytes i ++ payload y l h q s k → r ≡ placeIn s k + 1
+        → Begun (putMid (p .0 * 80) (p .0 * 80 + 80 - p .0 * 80) xs ys) y h q l r
+    block-on ys i r ei ey er =
+        let f : ℕ → List ℕ = writtenBlock y l h q in
+        let here : ys ≡ f (placeIn s k) = ey ∙ rw ei (sym (block-entry y l h q s k hk)) in
+        let more : run f r ≡ run f (placeIn s k) ++ ys = ap (run f) er ∙ run-more f (placeIn s k) ∙ ap (λ (x : List ℕ). run f (placeIn s k) ++ x) (sym here) in
+        rw (stands s k p ep hk) (begun-on xs ys (placeIn s k) r 80 b more (ap length here ∙ block-wide y l h q (placeIn s k)) (omega (arith, place-in-below s k hk)))
 
-    audio-at : (a : ℕ) → a < 9 → i ≡ idOf h q Audio a → zs ≡ idBytes i ++ audioBytes y l h q a → zs ≡ writtenBlock y l h q (6 + 16 * a)
-    unfolding payload
-    audio-at a ha ei ez = ez ∙ rw ei (sym (block-entry y l h q Audio a ha))
-
-    video-at : (a j : ℕ) → a < 9 → j < 15 → i ≡ idOf h q Video (15 * a + j) → zs ≡ idBytes i ++ carriedBytes macroblocks (carriedIn y (slot h q (15 * a + j)))
-        → zs ≡ writtenBlock y l h q (7 + 16 * a + j)
-    unfolding payload videoBytes
-    video-at a j ha hj ei ez =
-        let v : 15 * a + j < 135 = omega arith in
-        let p : placeIn Video (15 * a + j) ≡ 7 + 16 * a + j = omega arith in
-        ez ∙ rw ei (sym (block-entry y l h q Video (15 * a + j) v)) ∙ ap (writtenBlock y l h q) p
+    block-long : length (take (p .0 * 80 + 80 - p .0 * 80) (drop (p .0 * 80) xs)) ≡ 80
+    block-long = part-long xs (p .0 * 80) 80 (block-ends s k p ep hk xs (b .whole .long))
 
   -- ---- H0, SC0, SC1; VA0, VA1, VA2
 
-  abbrev pub subcode-in : ℕ → List ℕ
-  subcode-in k = writtenBlock y l h q (1 + k)
+  pub header-done : (xs ys : List ℕ) (i : BlockId) (p : Place) → PartAsked xs 12000 y h q l → p ≡ placeFor Header (record { 0 = 0 }) → i ≡ idOf h q Header 0
+      → ys ≡ pick (eqb (length (take (p .0 * 80 + 80 - p .0 * 80) (drop (p .0 * 80) xs))) 80) (idBytes i ++ headerBytes y) (take (p .0 * 80 + 80 - p .0 * 80) (drop (p .0 * 80) xs))
+      → Begun (putMid (p .0 * 80) (p .0 * 80 + 80 - p .0 * 80) xs ys) y h q l 1
+  unfolding payload
+  header-done xs ys i p asked ep ei ey =
+      let hk : 0 < blocksOf Header = omega arith in
+      let b : Begun xs y h q l 0 = begun-none xs asked in
+      block-on Header 0 p ep hk xs b ys i 1 ei (written _ _ _ ys (eq-eqb _ _ (block-long Header 0 p ep hk xs b)) ey) refl
 
-  module _ (d xs : List ℕ) (asked : PartAsked d 160 y h q l) (k : ℕ) (ex : Filled 80 subcode-in k d xs) where
-    pub subcodes-turn : (ys : List ℕ) (i : BlockId) (s : ℕ) → length xs ≡ length d → k < 2 → s ≡ halfOf y → i ≡ idOf h q Subcode k
-        → ys ≡ pick (numberFits (length (take (k * 80 + 80 - k * 80) (drop (k * 80) xs))) k 2) (idBytes i ++ subcodeBytes (ltb q s) (timePack time) (groupPack group) k) (take (k * 80 + 80 - k * 80) (drop (k * 80) xs))
-        → Filled 80 subcode-in (k + 1) d (putMid (k * 80) (k * 80 + 80 - k * 80) xs ys)
-    subcodes-turn ys i s same hk es ei ey =
-        filled-next 80 subcode-in (λ j. block-wide y l h q (1 + j)) k d xs ys ex
-        (subcode-at ys i k s hk es ei (written _ _ _ ys (number-fits _ k 2 (block-long xs k 160 (same ∙ asked .long) (omega arith)) hk) ey))
+  module _ (xs : List ℕ) (k : ℕ) (p : Place) where
+    module _ (ep : p ≡ placeFor Subcode (record { 0 = k })) (b : Begun xs y h q l (1 + k)) (hk : k < 2) where
+      pub subcode-ends : p .0 * 80 + 80 ≤ length xs
+      subcode-ends = block-ends Subcode k p ep hk xs (b .whole .long)
 
-    pub subcodes-done : k ≤ 2 → 2 ≤ k → xs ≡ subcodeBlocks y l h q
-    unfolding subcodeBlocks
-    subcodes-done le ge = filled-end 80 subcode-in k 2 d xs ex (asked .long) le ge
+      pub subcodes-turn : (ys : List ℕ) (i : BlockId) (s : ℕ) → s ≡ halfOf y → i ≡ idOf h q Subcode k
+          → ys ≡ pick (numberFits (length (take (p .0 * 80 + 80 - p .0 * 80) (drop (p .0 * 80) xs))) k 2) (idBytes i ++ subcodeBytes (ltb q s) (timePack time) (groupPack group) k) (take (p .0 * 80 + 80 - p .0 * 80) (drop (p .0 * 80) xs))
+          → Begun (putMid (p .0 * 80) (p .0 * 80 + 80 - p .0 * 80) xs ys) y h q l (1 + (k + 1))
+      unfolding payload
+      subcodes-turn ys i s es ei ey =
+          block-on Subcode k p ep hk xs b ys i (1 + (k + 1)) ei (written _ _ _ ys (number-fits _ k 2 (block-long Subcode k p ep hk xs b) hk) ey ∙ rw es refl) (omega arith)
 
-  pub head-done : (xs ps zs ss : List ℕ) (i : BlockId) → PartAsked xs 240 y h q l → length ps ≡ 80 → i ≡ idOf h q Header 0
-      → zs ≡ pick (eqb (length ps) 80) (idBytes i ++ headerBytes y) ps → ss ≡ subcodeBlocks y l h q
-      → putMid 80 160 (zs ++ postOf 0 80 xs) ss ≡ headBlocks y l h q
-  unfolding headBlocks subcodeBlocks run
-  head-done xs ps zs ss i asked ep ei ez es =
-      let eh : zs ≡ writtenBlock y l h q 0 = header-at zs i ei (written _ _ ps zs (eq-eqb _ _ ep) ez) in
-      two-parts 80 160 zs ss xs (ap length eh ∙ block-wide y l h q 0) (asked .long) ∙ rw (eh, es) (sym (run-split (writtenBlock y l h q) 1 2))
+    module _ (ep : p ≡ placeFor Vaux (record { 0 = k })) (b : Begun xs y h q l (3 + k)) (hk : k < 3) where
+      pub vaux-ends : p .0 * 80 + 80 ≤ length xs
+      vaux-ends = block-ends Vaux k p ep hk xs (b .whole .long)
 
-  abbrev pub vaux-in : ℕ → List ℕ
-  vaux-in k = writtenBlock y l h q (3 + k)
+      pub vauxes-turn : (ys : List ℕ) (i : BlockId) → i ≡ idOf h q Vaux k
+          → ys ≡ pick (numberFits (length (take (p .0 * 80 + 80 - p .0 * 80) (drop (p .0 * 80) xs))) k 3) (idBytes i ++ vauxBytes y q k) (take (p .0 * 80 + 80 - p .0 * 80) (drop (p .0 * 80) xs))
+          → Begun (putMid (p .0 * 80) (p .0 * 80 + 80 - p .0 * 80) xs ys) y h q l (3 + (k + 1))
+      unfolding payload
+      vauxes-turn ys i ei ey =
+          block-on Vaux k p ep hk xs b ys i (3 + (k + 1)) ei (written _ _ _ ys (number-fits _ k 3 (block-long Vaux k p ep hk xs b) hk) ey) (omega arith)
 
-  module _ (d xs : List ℕ) (asked : PartAsked d 240 y h q l) (k : ℕ) (ex : Filled 80 vaux-in k d xs) where
-    pub vauxes-turn : (ys : List ℕ) (i : BlockId) → length xs ≡ length d → k < 3 → i ≡ idOf h q Vaux k
-        → ys ≡ pick (numberFits (length (take (k * 80 + 80 - k * 80) (drop (k * 80) xs))) k 3) (idBytes i ++ vauxBytes y q k) (take (k * 80 + 80 - k * 80) (drop (k * 80) xs))
-        → Filled 80 vaux-in (k + 1) d (putMid (k * 80) (k * 80 + 80 - k * 80) xs ys)
-    vauxes-turn ys i same hk ei ey =
-        filled-next 80 vaux-in (λ j. block-wide y l h q (3 + j)) k d xs ys ex
-        (vaux-at ys i k hk ei (written _ _ _ ys (number-fits _ k 3 (block-long xs k 240 (same ∙ asked .long) (omega arith)) hk) ey))
+  -- after the last turn
+  module _ (xs : List ℕ) (k : ℕ) where
+    begun-end : (p r : ℕ) → Begun xs y h q l p → p ≡ r → Begun xs y h q l r
+    begun-end p r b e = subst (Begun xs y h q l) e b
 
-    pub vauxes-done : k ≤ 3 → 3 ≤ k → xs ≡ vauxBlocks y l h q
-    unfolding vauxBlocks
-    vauxes-done le ge = filled-end 80 vaux-in k 3 d xs ex (asked .long) le ge
+    pub subcodes-done : Begun xs y h q l (1 + k) → k ≤ 2 → 2 ≤ k → Begun xs y h q l 3
+    subcodes-done b le ge = begun-end (1 + k) 3 b (omega arith)
 
-  -- ---- a row
+    pub vauxes-done : Begun xs y h q l (3 + k) → k ≤ 3 → 3 ≤ k → Begun xs y h q l 6
+    vauxes-done b le ge = begun-end (3 + k) 6 b (omega arith)
 
-  module _ (a : ℕ) where
+    pub rows-done : Begun xs y h q l (6 + 16 * k) → k ≤ 9 → 9 ≤ k → Begun xs y h q l 150
+    rows-done b le ge = begun-end (6 + 16 * k) 150 b (omega arith)
+
+  -- ---- the video blocks of a row
+
+  module _ (v : ℕ) where
     abbrev pub video-in : ℕ → List ℕ
-    video-in j = writtenBlock y l h q (7 + 16 * a + j)
+    video-in j = entryBlock y l h q (block Video (v + j))
 
-    module _ (d xs : List ℕ) (asked : RowAsked d 1200 y h q a l) where
+    module _ (d xs : List ℕ) (asked : VideosAsked d y h q v l) where
       video-fits : (j : ℕ) → j < 15 → length xs ≡ length d → videoFits (length (take (j * 80 + 80 - j * 80) (drop (j * 80) xs))) y (length macroblocks) ≡ true
       unfolding videoFits
-      video-fits j hj same = rw (eq-eqb _ _ (block-long xs j 1200 (same ∙ asked .whole .long) (omega arith)), eq-eqb _ _ (asked .whole .lengths .pictures)) refl
+      video-fits j hj same = rw (eq-eqb _ _ (part-long xs (j * 80) 80 (omega (arith, same, asked .whole .long))), eq-eqb _ _ (asked .whole .lengths .pictures)) refl
 
       module _ (j : ℕ) (ex : Filled 80 video-in j d xs) where
-        pub videos-turn : (ys : List ℕ) (i : BlockId) → length xs ≡ length d → j < 15 → i ≡ idOf h q Video (15 * a + j)
-            → ys ≡ pick (videoFits (length (take (j * 80 + 80 - j * 80) (drop (j * 80) xs))) y (length macroblocks)) (idBytes i ++ carriedBytes macroblocks (carriedIn y (slot h q (15 * a + j)))) (take (j * 80 + 80 - j * 80) (drop (j * 80) xs))
+        pub videos-turn : (ys : List ℕ) (i : BlockId) → length xs ≡ length d → j < 15 → i ≡ idOf h q Video (v + j)
+            → ys ≡ pick (videoFits (length (take (j * 80 + 80 - j * 80) (drop (j * 80) xs))) y (length macroblocks)) (idBytes i ++ carriedBytes macroblocks (carriedIn y (slot h q (v + j)))) (take (j * 80 + 80 - j * 80) (drop (j * 80) xs))
             → Filled 80 video-in (j + 1) d (putMid (j * 80) (j * 80 + 80 - j * 80) xs ys)
+        unfolding entryBlock payload videoBytes
         videos-turn ys i same hj ei ey =
-            filled-next 80 video-in (λ k. block-wide y l h q (7 + 16 * a + k)) j d xs ys ex
-            (video-at ys i a j (asked .row) hj ei (written _ _ _ ys (video-fits j hj same) ey))
+            filled-next 80 video-in (λ n. entry-block-length y l h q (block Video (v + n))) j d xs ys ex
+            (written _ _ _ ys (video-fits j hj same) ey ∙ rw ei refl)
 
-        pub videos-done : j ≤ 15 → 15 ≤ j → xs ≡ rowVideo y l h q a
-        unfolding rowVideo
+        pub videos-done : j ≤ 15 → 15 ≤ j → xs ≡ videoBlocks y l h q v
+        unfolding videoBlocks
         videos-done le ge = filled-end 80 video-in j 15 d xs ex (asked .whole .long) le ge
 
-    row-parts : rowBlocks y l h q a ≡ writtenBlock y l h q (6 + 16 * a) ++ rowVideo y l h q a
-    unfolding rowBlocks rowVideo run
-    row-parts =
-        let first : 6 + 16 * a + 0 ≡ 6 + 16 * a = omega arith in
-        let next : (j : ℕ) → j < 15 → writtenBlock y l h q (6 + 16 * a + (1 + j)) ≡ writtenBlock y l h q (7 + 16 * a + j) =
-        λ j _. ap (writtenBlock y l h q) (step a j) in
-        run-split (λ (j : ℕ). writtenBlock y l h q (6 + 16 * a + j)) 1 15
-        ∙ ap₂ _++_ (ap (writtenBlock y l h q) first) (run-same (λ (j : ℕ). writtenBlock y l h q (6 + 16 * a + (1 + j))) (λ (j : ℕ). writtenBlock y l h q (7 + 16 * a + j)) 15 next)
+  -- ---- a row: A(a), and the number behind it
 
-    audio-fits : (xs ps : List ℕ) → RowAsked xs 1280 y h q a l → length ps ≡ 80 → audioFits (length ps) y h q count (length sound) a ≡ true
-    unfolding audioFits
-    audio-fits xs ps asked e =
-        let r = asked .whole in
-        rw (eq-eqb _ _ e, lt-ltb _ _ (asked .row), lt-ltb _ _ (r .channel), lt-ltb _ _ (r .sequence), r .lengths .counts, eq-eqb _ _ (r .lengths .sounds)) refl
+  module _ (a : BlockNumber) (xs : List ℕ) (asked : RowAsked xs y h q (a .0) l) where
+    abbrev p : ℕ
+    p = placeFor Audio a .0
 
-    pub row-done : (xs ps zs vs : List ℕ) (i : BlockId) → RowAsked xs 1280 y h q a l → length ps ≡ 80 → i ≡ idOf h q Audio a
-        → zs ≡ pick (audioFits (length ps) y h q count (length sound) a) (idBytes i ++ audioBytes y l h q a) ps → vs ≡ rowVideo y l h q a
-        → putMid 80 1200 (zs ++ postOf 0 80 xs) vs ≡ rowBlocks y l h q a
-    row-done xs ps zs vs i asked ep ei ez ev =
-        let ea : zs ≡ writtenBlock y l h q (6 + 16 * a) = audio-at zs i a (asked .row) ei (written _ _ ps zs (audio-fits xs ps asked ep) ez) in
-        two-parts 80 1200 zs vs xs (ap length ea ∙ block-wide y l h q (6 + 16 * a)) (asked .whole .long) ∙ rw (ea, ev) (sym row-parts)
+    row-stands : p ≡ 6 + 16 * a .0
+    row-stands = stands Audio (a .0) (placeFor Audio a) refl (asked .row)
 
-  -- ---- the rows, and the sequence
+    -- the place j + 1 behind A(a) holds V(15a + j)
+    follows : (j : ℕ) → j < 15 → entryAt (place (p + (1 + j))) ≡ block Video (15 * a .0 + j)
+    follows j hj =
+        let e : p + (1 + j) ≡ placeIn Video (15 * a .0 + j) = omega (arith, row-stands) in
+        ap (λ (n : ℕ). entryAt (place n)) e ∙ entry-place-in Video (15 * a .0 + j) (omega (arith, asked .row))
 
-  row-wide : Wide 1280 (rowBlocks y l h q)
-  unfolding rowBlocks
-  row-wide a = length-run 80 (λ (j : ℕ). writtenBlock y l h q (6 + 16 * a + j)) (λ j. block-wide y l h q (6 + 16 * a + j)) 16
+    module _ (v : BlockNumber) (ev : v ≡ entryAt (place (p + 1)) .number) where
+      first-is : v .0 ≡ 15 * a .0
+      first-is = ap (λ (x : BlockNumber). x .0) (ev ∙ ap (λ (x : Entry). x .number) (follows 0 (omega arith))) ∙ omega arith
 
-  module _ (d xs : List ℕ) (asked : PartAsked d 11520 y h q l) (a : ℕ) where
-    pub row-asked : a < 9 → length xs ≡ length d → RowAsked (take (a * 1280 + 1280 - a * 1280) (drop (a * 1280) xs)) 1280 y h q a l
-    row-asked ha same = record {
-      whole = record {
-        long = ap length (range-part (a * 1280) 1280 xs) ∙ length-part (a * 1280) 1280 xs (omega (arith, same, asked .long));
-        channel = asked .channel;
-        sequence = asked .sequence;
-        lengths = asked .lengths;
-      };
-      row = ha;
-    }
+      pub videos-asked : (ws : List ℕ) → length ws ≡ 1200 → VideosAsked ws y h q (v .0) l
+      videos-asked ws n = record {
+        whole = record { long = n; channel = asked .whole .channel; sequence = asked .whole .sequence; lengths = asked .whole .lengths };
+        room = omega (arith, first-is, asked .row);
+      }
 
-    module _ (ex : Filled 1280 (rowBlocks y l h q) a d xs) where
-      pub rows-turn : (ys : List ℕ) → ys ≡ rowBlocks y l h q a → Filled 1280 (rowBlocks y l h q) (a + 1) d (putMid (a * 1280) (a * 1280 + 1280 - a * 1280) xs ys)
-      rows-turn ys ey = filled-next 1280 (rowBlocks y l h q) row-wide a d xs ys ex ey
+      row-parts : rowBlocks y l h q p ≡ writtenBlock y l h q p ++ videoBlocks y l h q (v .0)
+      unfolding rowBlocks videoBlocks writtenBlock run
+      row-parts =
+          let first : p + 0 ≡ p = omega arith in
+          let next : (j : ℕ) → j < 15 → writtenBlock y l h q (p + (1 + j)) ≡ video-in (v .0) j =
+          λ j hj. ap (entryBlock y l h q) (follows j hj ∙ ap (λ (n : ℕ). block Video (n + j)) (sym first-is)) in
+          run-split (λ (j : ℕ). writtenBlock y l h q (p + j)) 1 15
+          ∙ ap₂ _++_ (ap (writtenBlock y l h q) first) (run-same (λ (j : ℕ). writtenBlock y l h q (p + (1 + j))) (video-in (v .0)) 15 next)
 
-      pub rows-done : a ≤ 9 → 9 ≤ a → xs ≡ allRows y l h q
-      unfolding allRows
-      rows-done le ge = filled-end 1280 (rowBlocks y l h q) a 9 d xs ex (asked .long) le ge
+      audio-fits : (ps : List ℕ) → length ps ≡ 80 → audioFits (length ps) y h q count (length sound) (a .0) ≡ true
+      unfolding audioFits
+      audio-fits ps n =
+          let r = asked .whole in
+          rw (eq-eqb _ _ n, lt-ltb _ _ (asked .row), lt-ltb _ _ (r .channel), lt-ltb _ _ (r .sequence), r .lengths .counts, eq-eqb _ _ (r .lengths .sounds)) refl
 
-  sequence-parts : writtenSequence y l h q ≡ headBlocks y l h q ++ (vauxBlocks y l h q ++ allRows y l h q)
-  unfolding writtenSequence headBlocks vauxBlocks allRows rowBlocks
-  sequence-parts =
-      let f : ℕ → List ℕ = writtenBlock y l h q in
-      run-split f 3 147
-      ∙ ap (λ (b : List ℕ). run f 3 ++ b)
-      (run-split (λ (k : ℕ). f (3 + k)) 3 144
-      ∙ ap (λ (b : List ℕ). run (λ (k : ℕ). f (3 + k)) 3 ++ b)
-      (run-same (λ (k : ℕ). f (3 + (3 + k))) (λ (k : ℕ). f (6 + 16 * (k / 16) + k % 16)) 144 (λ k _. ap f (row-place k))
-      ∙ run-rows (λ (a j : ℕ). f (6 + 16 * a + j)) 16 9 (omega arith)))
+      pub row-done : (ps zs vs : List ℕ) (i : BlockId) → length ps ≡ 80 → i ≡ idOf h q Audio (a .0)
+          → zs ≡ pick (audioFits (length ps) y h q count (length sound) (a .0)) (idBytes i ++ audioBytes y l h q (a .0)) ps → vs ≡ videoBlocks y l h q (v .0)
+          → putMid 80 1200 (zs ++ postOf 0 80 xs) vs ≡ rowBlocks y l h q (placeFor Audio a .0)
+      unfolding payload
+      row-done ps zs vs i n ei ez es =
+          let here : writtenBlock y l h q p ≡ idBytes (idOf h q Audio (a .0)) ++ audioBytes y l h q (a .0) = ap (writtenBlock y l h q) row-stands ∙ block-entry y l h q Audio (a .0) (asked .row) in
+          let ea : zs ≡ writtenBlock y l h q p = written _ _ ps zs (audio-fits ps n) ez ∙ rw ei (sym here) in
+          two-parts 80 1200 zs vs xs (ap length ea ∙ block-wide y l h q p) (asked .whole .long) ∙ rw (ea, es) (sym row-parts)
 
-  pub sequence-done : (xs zs vs rs : List ℕ) → PartAsked xs 12000 y h q l → zs ≡ headBlocks y l h q → vs ≡ vauxBlocks y l h q → rs ≡ allRows y l h q
-      → putMid 480 11520 (putMid 240 240 (zs ++ postOf 0 240 xs) vs) rs ≡ writtenSequence y l h q
-  sequence-done xs zs vs rs asked ez ev er =
-      three-parts zs vs rs xs (ap length ez ∙ head-long y l h q) (ap length ev ∙ vaux-long y l h q) (asked .long) ∙ rw (ez, ev, er) (sym sequence-parts)
+  -- ---- the rows
 
--- what is asked of a part is asked of a part of it
-pub smaller-asked : (part block : List ℕ) (m n : ℕ) (y : System) (h q : ℕ) (l : Lent) → PartAsked part m y h q l → length block ≡ n → PartAsked block n y h q l
-smaller-asked part block m n y h q l a e = record { long = e; channel = a .channel; sequence = a .sequence; lengths = a .lengths }
+  module _ (xs : List ℕ) (a : ℕ) (p : Place) (ep : p ≡ placeFor Audio (record { 0 = a })) (b : Begun xs y h q l (6 + 16 * a)) (ha : a < 9) where
+    row-at : p .0 ≡ 6 + 16 * a
+    row-at = stands Audio a p ep ha
 
-pub smaller-row-asked : (part block : List ℕ) (m n : ℕ) (y : System) (h q a : ℕ) (l : Lent) → RowAsked part m y h q a l → length block ≡ n → RowAsked block n y h q a l
-smaller-row-asked part block m n y h q a l r e = record { whole = smaller-asked part block m n y h q l (r .whole) e; row = r .row }
+    pub row-ends : p .0 * 80 + 1280 ≤ length xs
+    row-ends = omega (arith, b .whole .long, row-at)
+
+    pub row-asked : RowAsked (take (p .0 * 80 + 1280 - p .0 * 80) (drop (p .0 * 80) xs)) y h q a l
+    row-asked =
+        let w = b .whole in
+        record { whole = record { long = part-long xs (p .0 * 80) 1280 row-ends; channel = w .channel; sequence = w .sequence; lengths = w .lengths }; row = ha }
+
+    pub rows-turn : (ys : List ℕ) → ys ≡ rowBlocks y l h q (placeFor Audio (record { 0 = a }) .0)
+        → Begun (putMid (p .0 * 80) (p .0 * 80 + 1280 - p .0 * 80) xs ys) y h q l (6 + 16 * (a + 1))
+    unfolding rowBlocks
+    rows-turn ys ey =
+        let f : ℕ → List ℕ = writtenBlock y l h q in
+        let here : ys ≡ run (λ (j : ℕ). f (p .0 + j)) 16 = ey ∙ ap (λ (x : Place). run (λ (j : ℕ). f (x .0 + j)) 16) (sym ep) in
+        let to : 6 + 16 * (a + 1) ≡ p .0 + 16 = omega (arith, row-at) in
+        let more : run f (6 + 16 * (a + 1)) ≡ run f (p .0) ++ ys = ap (run f) to ∙ run-split f (p .0) 16 ∙ ap (λ (x : List ℕ). run f (p .0) ++ x) (sym here) in
+        begun-on xs ys (p .0) (6 + 16 * (a + 1)) 1280 (subst (Begun xs y h q l) (sym row-at) b) more
+        (ap length here ∙ length-run 80 (λ (j : ℕ). f (p .0 + j)) (λ j. block-wide y l h q (p .0 + j)) 16) (omega (arith, row-at))
+
+  -- ---- the sequence
+
+  pub sequence-done : (xs : List ℕ) → Begun xs y h q l 150 → xs ≡ writtenSequence y l h q
+  unfolding writtenSequence
+  sequence-done xs b = sym (take-all 12000 xs (omega (arith, b .whole .long))) ∙ b .is
 
 -- ---- a DIF channel
 

@@ -2,11 +2,12 @@
 use mathlib.Core.Path.{_≡_}
 use mathlib.Core.Bool.{true}
 use mathlib.Core.List.{List}
-use Prim.Native.Nat.{ℕ, _*_, _<_}
-use lib.ListN.{length}
+use Prim.Native.Nat.{ℕ, _+_, _*_, _≤_, _<_}
+use lib.ListN.{length, take}
+use Rattle.base.specs.Run.{run}
 use Rattle.rules.specs.declared.System.{System}
 use Rattle.rules.specs.Systems.{sequencesOf, isCount, macroblocksOf}
-use Rattle.rules.specs.Written.{Lent}
+use Rattle.rules.specs.Written.{Lent, writtenBlock}
 
 -- what is lent has the lengths of a count of the system
 pub record Lengths (y : System) (l : Lent) : Type 0 where
@@ -21,10 +22,20 @@ pub record PartAsked (part : List ℕ) (size : ℕ) (y : System) (h q : ℕ) (l 
   pub sequence : q < sequencesOf y
   pub lengths : Lengths y l
 
--- and of row a
-pub record RowAsked (part : List ℕ) (size : ℕ) (y : System) (h q a : ℕ) (l : Lent) : Type 0 where
-  pub whole : PartAsked part size y h q l
+-- a sequence in stream order: the blocks of its first p places are written
+pub record Begun (part : List ℕ) (y : System) (h q : ℕ) (l : Lent) (p : ℕ) : Type 0 where
+  pub whole : PartAsked part 12000 y h q l
+  pub is : take (p * 80) part ≡ run (writtenBlock y l h q) p
+
+-- the row of A(a)
+pub record RowAsked (part : List ℕ) (y : System) (h q a : ℕ) (l : Lent) : Type 0 where
+  pub whole : PartAsked part 1280 y h q l
   pub row : a < 9
+
+-- fifteen video blocks, from V(v) on
+pub record VideosAsked (part : List ℕ) (y : System) (h q v : ℕ) (l : Lent) : Type 0 where
+  pub whole : PartAsked part 1200 y h q l
+  pub room : v + 15 ≤ 135
 
 pub record ChannelPartAsked (part : List ℕ) (y : System) (h : ℕ) (l : Lent) : Type 0 where
   pub long : length part ≡ sequencesOf y * 12000

@@ -1,29 +1,16 @@
--- The parts of a sequence that are written one by one: H0, SC0, SC1; VA0 to VA2; nine rows of an audio and fifteen video blocks.
+-- What stands in a row of an audio block and the fifteen video blocks behind it.
 use mathlib.Core.List.{List}
-use Prim.Native.Nat.{ℕ, _+_, _*_}
+use Prim.Native.Nat.{ℕ, _+_}
 use Rattle.base.specs.Run.{run}
 use Rattle.rules.specs.declared.System.{System}
-use Rattle.rules.specs.Written.{Lent, writtenBlock}
+use Rattle.rules.specs.declared.Section.the-variants.{Video}
+use Rattle.rules.specs.Places.{block}
+use Rattle.rules.specs.Written.{Lent, entryBlock, writtenBlock}
 
--- places 1 and 2
-unfoldable pub subcodeBlocks : System → Lent → ℕ → ℕ → List ℕ
-subcodeBlocks y l h q = run (λ (k : ℕ). writtenBlock y l h q (1 + k)) 2
+-- fifteen video blocks, from V(v) on
+unfoldable pub videoBlocks : System → Lent → ℕ → ℕ → ℕ → List ℕ
+videoBlocks y l h q v = run (λ (j : ℕ). entryBlock y l h q (block Video (v + j))) 15
 
--- places 0 to 2
-unfoldable pub headBlocks : System → Lent → ℕ → ℕ → List ℕ
-headBlocks y l h q = run (writtenBlock y l h q) 3
-
--- places 3 to 5
-unfoldable pub vauxBlocks : System → Lent → ℕ → ℕ → List ℕ
-vauxBlocks y l h q = run (λ (k : ℕ). writtenBlock y l h q (3 + k)) 3
-
--- places 7 + 16a to 21 + 16a
-unfoldable pub rowVideo : System → Lent → ℕ → ℕ → ℕ → List ℕ
-rowVideo y l h q a = run (λ (j : ℕ). writtenBlock y l h q (7 + 16 * a + j)) 15
-
--- places 6 + 16a to 21 + 16a
+-- the sixteen places from p on
 unfoldable pub rowBlocks : System → Lent → ℕ → ℕ → ℕ → List ℕ
-rowBlocks y l h q a = run (λ (j : ℕ). writtenBlock y l h q (6 + 16 * a + j)) 16
-
-unfoldable pub allRows : System → Lent → ℕ → ℕ → List ℕ
-allRows y l h q = run (rowBlocks y l h q) 9
+rowBlocks y l h q p = run (λ (j : ℕ). writtenBlock y l h q (p + j)) 16

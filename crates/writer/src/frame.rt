@@ -5,6 +5,7 @@ ghost use Rattle.rules.specs.Written.{writtenChannel, writtenFrame};
 ghost use Rattle.rules.specs.Write.{lent};
 ghost use Rattle.writer.specs.Asked.{ChannelPartAsked, FrameAsked};
 use crate::sequence;
+use layout::CHANNELS;
 use layout::SEQUENCE;
 use rules::System;
 
@@ -54,7 +55,7 @@ pub(crate) fn fill_frame(
 {
     let size = (layout::sequences(y) as usize) * SEQUENCE;
     let mut h: u32 = 0;
-    while h < 4 {
+    while h < CHANNELS {
         let at = (h as usize) * size;
         let to = at + size;
         write_channel(

@@ -1,26 +1,54 @@
-// The 150 blocks of a sequence: H0, SC0, SC1; VA0 to VA2; then nine rows of an audio block and fifteen video blocks.
+// The 150 blocks of a sequence, each where the place rule has it: H0, SC0, SC1, VA0 to VA2, then nine rows of an audio block and the
+// fifteen video blocks behind it. So they go in stream order.
 ghost use mathlib.Core.Path.{_≡_};
-ghost use lib.ListN.{length};
+ghost use Prim.Native.Nat.{_+_};
+ghost use Rattle.rules.specs.Places.{place, entryAt, placeFor};
 ghost use Rattle.rules.specs.Ids.{idOf};
 ghost use Rattle.rules.specs.Written.{writtenSequence};
 ghost use Rattle.rules.specs.Write.{lent};
-ghost use Rattle.writer.specs.Asked.{PartAsked, RowAsked};
-ghost use Rattle.writer.specs.Rows.{subcodeBlocks, headBlocks, vauxBlocks, rowVideo, rowBlocks, allRows};
+ghost use Rattle.writer.specs.Asked.{PartAsked, Begun, RowAsked, VideosAsked};
+ghost use Rattle.writer.specs.Rows.{videoBlocks, rowBlocks};
 use layout::BLOCK;
 use rules::BlockId;
 use rules::BlockNumber;
+use rules::Place;
 use rules::Section;
 use rules::System;
 
-fn id(h: u32, q: u32, section: Section, number: u32) -> BlockId
-    ensures { λ r. ⌜ r ≡ idOf h q section number ⌝ }
+// The bytes of a row.
+const ROW: usize = 16 * BLOCK;
+
+fn id(h: u32, q: u32, section: Section, number: BlockNumber) -> BlockId
+    ensures { λ r. ⌜ r ≡ idOf h q section (number .0) ⌝ }
 {
     BlockId {
         section: section,
         channel: h,
         dseq: q,
-        dbn: BlockNumber(number),
+        dbn: number,
     }
+}
+
+// H0.
+fn write_header(
+    part: &mut [u8],
+    y: System,
+    h: u32,
+    q: u32,
+    count: u32,
+    sound: &[i32],
+    macroblocks: &[u8],
+    time: &[u8],
+    group: &[u8],
+)
+    requires { ⌜ PartAsked (now part) 12000 y h q (lent count (now sound) (now macroblocks) (now time) (now group)) ⌝ }
+    ensures { λ _. ⌜ Begun (now (part .exit)) y h q (lent count (now (sound .entry)) (now (macroblocks .entry)) (now (time .entry)) (now (group .entry))) 1 ⌝ }
+{
+    let number = BlockNumber(0);
+    let p = layout::place_in(Section::Header, number);
+    let at = p.0 as usize * BLOCK;
+    let to = at + BLOCK;
+    blocks::put_header(&mut part[at..to], id(h, q, Section::Header, number), y);
 }
 
 // SC0, SC1.
@@ -35,53 +63,26 @@ fn write_subcodes(
     time: &[u8],
     group: &[u8],
 )
-    requires { ⌜ PartAsked (now part) 160 y h q (lent count (now sound) (now macroblocks) (now time) (now group)) ⌝ }
-    ensures { λ _. ⌜ now (part .exit) ≡ subcodeBlocks y (lent count (now (sound .entry)) (now (macroblocks .entry)) (now (time .entry)) (now (group .entry))) h q ⌝ }
+    requires { ⌜ Begun (now part) y h q (lent count (now sound) (now macroblocks) (now time) (now group)) 1 ⌝ }
+    ensures { λ _. ⌜ Begun (now (part .exit)) y h q (lent count (now (sound .entry)) (now (macroblocks .entry)) (now (time .entry)) (now (group .entry))) 3 ⌝ }
 {
     let mut k: u32 = 0;
     while k < 2 {
-        let at = (k as usize) * BLOCK;
+        let number = BlockNumber(k);
+        let p = layout::place_in(Section::Subcode, number);
+        let at = p.0 as usize * BLOCK;
         let to = at + BLOCK;
         let early = q < layout::half(y);
         blocks::put_subcode(
             &mut part[at..to],
-            id(h, q, Section::Subcode, k),
+            id(h, q, Section::Subcode, number),
             early,
             time,
             group,
-            k,
+            number,
         );
         k += 1;
     }
-}
-
-// H0, SC0, SC1.
-fn write_head(
-    part: &mut [u8],
-    y: System,
-    h: u32,
-    q: u32,
-    count: u32,
-    sound: &[i32],
-    macroblocks: &[u8],
-    time: &[u8],
-    group: &[u8],
-)
-    requires { ⌜ PartAsked (now part) 240 y h q (lent count (now sound) (now macroblocks) (now time) (now group)) ⌝ }
-    ensures { λ _. ⌜ now (part .exit) ≡ headBlocks y (lent count (now (sound .entry)) (now (macroblocks .entry)) (now (time .entry)) (now (group .entry))) h q ⌝ }
-{
-    blocks::put_header(&mut part[0..80], id(h, q, Section::Header, 0), y);
-    write_subcodes(
-        &mut part[80..240],
-        y,
-        h,
-        q,
-        count,
-        sound,
-        macroblocks,
-        time,
-        group,
-    );
 }
 
 // VA0, VA1, VA2.
@@ -96,70 +97,88 @@ fn write_vauxes(
     time: &[u8],
     group: &[u8],
 )
-    requires { ⌜ PartAsked (now part) 240 y h q (lent count (now sound) (now macroblocks) (now time) (now group)) ⌝ }
-    ensures { λ _. ⌜ now (part .exit) ≡ vauxBlocks y (lent count (now (sound .entry)) (now (macroblocks .entry)) (now (time .entry)) (now (group .entry))) h q ⌝ }
+    requires { ⌜ Begun (now part) y h q (lent count (now sound) (now macroblocks) (now time) (now group)) 3 ⌝ }
+    ensures { λ _. ⌜ Begun (now (part .exit)) y h q (lent count (now (sound .entry)) (now (macroblocks .entry)) (now (time .entry)) (now (group .entry))) 6 ⌝ }
 {
     let mut k: u32 = 0;
     while k < 3 {
-        let at = (k as usize) * BLOCK;
+        let number = BlockNumber(k);
+        let p = layout::place_in(Section::Vaux, number);
+        let at = p.0 as usize * BLOCK;
         let to = at + BLOCK;
-        blocks::put_vaux(&mut part[at..to], id(h, q, Section::Vaux, k), y, q, k);
+        blocks::put_vaux(
+            &mut part[at..to],
+            id(h, q, Section::Vaux, number),
+            y,
+            q,
+            number,
+        );
         k += 1;
     }
 }
 
-// The fifteen video blocks of row a.
+// Fifteen video blocks one after the other, whose numbers follow `first`.
 fn write_videos(
     part: &mut [u8],
     y: System,
     h: u32,
     q: u32,
-    a: u32,
+    first: BlockNumber,
     count: u32,
     sound: &[i32],
     macroblocks: &[u8],
     time: &[u8],
     group: &[u8],
 )
-    requires { ⌜ RowAsked (now part) 1200 y h q a (lent count (now sound) (now macroblocks) (now time) (now group)) ⌝ }
-    ensures { λ _. ⌜ now (part .exit) ≡ rowVideo y (lent count (now (sound .entry)) (now (macroblocks .entry)) (now (time .entry)) (now (group .entry))) h q a ⌝ }
+    requires { ⌜ VideosAsked (now part) y h q (first .0) (lent count (now sound) (now macroblocks) (now time) (now group)) ⌝ }
+    ensures { λ _. ⌜ now (part .exit) ≡ videoBlocks y (lent count (now (sound .entry)) (now (macroblocks .entry)) (now (time .entry)) (now (group .entry))) h q (first .0) ⌝ }
 {
+    let v = first.0;
     let mut j: u32 = 0;
     while j < 15 {
         let at = (j as usize) * BLOCK;
         let to = at + BLOCK;
-        let v = 15 * a + j;
+        let number = BlockNumber(v + j);
         blocks::put_video(
             &mut part[at..to],
-            id(h, q, Section::Video, v),
+            id(h, q, Section::Video, number),
             y,
             h,
             q,
             macroblocks,
-            v,
+            number,
         );
         j += 1;
     }
 }
 
-// A(a) and its fifteen video blocks.
+// The number of the block at the place behind A(a).
+fn behind(a: BlockNumber) -> BlockNumber
+    ensures { λ r. ⌜ r ≡ entryAt (place (placeFor Section.Audio a .0 + 1)) .number ⌝ }
+{
+    let p = layout::place_in(Section::Audio, a);
+    let e = layout::entry_at(Place(p.0 + 1));
+    e.number
+}
+
+// A(a) and the video blocks behind it.
 fn write_row(
     part: &mut [u8],
     y: System,
     h: u32,
     q: u32,
-    a: u32,
+    a: BlockNumber,
     count: u32,
     sound: &[i32],
     macroblocks: &[u8],
     time: &[u8],
     group: &[u8],
 )
-    requires { ⌜ RowAsked (now part) 1280 y h q a (lent count (now sound) (now macroblocks) (now time) (now group)) ⌝ }
-    ensures { λ _. ⌜ now (part .exit) ≡ rowBlocks y (lent count (now (sound .entry)) (now (macroblocks .entry)) (now (time .entry)) (now (group .entry))) h q a ⌝ }
+    requires { ⌜ RowAsked (now part) y h q (a .0) (lent count (now sound) (now macroblocks) (now time) (now group)) ⌝ }
+    ensures { λ _. ⌜ now (part .exit) ≡ rowBlocks y (lent count (now (sound .entry)) (now (macroblocks .entry)) (now (time .entry)) (now (group .entry))) h q (placeFor Section.Audio a .0) ⌝ }
 {
     blocks::put_audio(
-        &mut part[0..80],
+        &mut part[0..BLOCK],
         id(h, q, Section::Audio, a),
         y,
         h,
@@ -172,11 +191,11 @@ fn write_row(
         a,
     );
     write_videos(
-        &mut part[80..1280],
+        &mut part[BLOCK..ROW],
         y,
         h,
         q,
-        a,
+        behind(a),
         count,
         sound,
         macroblocks,
@@ -196,19 +215,21 @@ fn write_rows(
     time: &[u8],
     group: &[u8],
 )
-    requires { ⌜ PartAsked (now part) 11520 y h q (lent count (now sound) (now macroblocks) (now time) (now group)) ⌝ }
-    ensures { λ _. ⌜ now (part .exit) ≡ allRows y (lent count (now (sound .entry)) (now (macroblocks .entry)) (now (time .entry)) (now (group .entry))) h q ⌝ }
+    requires { ⌜ Begun (now part) y h q (lent count (now sound) (now macroblocks) (now time) (now group)) 6 ⌝ }
+    ensures { λ _. ⌜ Begun (now (part .exit)) y h q (lent count (now (sound .entry)) (now (macroblocks .entry)) (now (time .entry)) (now (group .entry))) 150 ⌝ }
 {
     let mut a: u32 = 0;
     while a < 9 {
-        let at = (a as usize) * 1280;
-        let to = at + 1280;
+        let number = BlockNumber(a);
+        let p = layout::place_in(Section::Audio, number);
+        let at = p.0 as usize * BLOCK;
+        let to = at + ROW;
         write_row(
             &mut part[at..to],
             y,
             h,
             q,
-            a,
+            number,
             count,
             sound,
             macroblocks,
@@ -233,37 +254,8 @@ pub(crate) fn write_sequence(
     requires { ⌜ PartAsked (now part) 12000 y h q (lent count (now sound) (now macroblocks) (now time) (now group)) ⌝ }
     ensures { λ _. ⌜ now (part .exit) ≡ writtenSequence y (lent count (now (sound .entry)) (now (macroblocks .entry)) (now (time .entry)) (now (group .entry))) h q ⌝ }
 {
-    write_head(
-        &mut part[0..240],
-        y,
-        h,
-        q,
-        count,
-        sound,
-        macroblocks,
-        time,
-        group,
-    );
-    write_vauxes(
-        &mut part[240..480],
-        y,
-        h,
-        q,
-        count,
-        sound,
-        macroblocks,
-        time,
-        group,
-    );
-    write_rows(
-        &mut part[480..12000],
-        y,
-        h,
-        q,
-        count,
-        sound,
-        macroblocks,
-        time,
-        group,
-    );
+    write_header(part, y, h, q, count, sound, macroblocks, time, group);
+    write_subcodes(part, y, h, q, count, sound, macroblocks, time, group);
+    write_vauxes(part, y, h, q, count, sound, macroblocks, time, group);
+    write_rows(part, y, h, q, count, sound, macroblocks, time, group);
 }

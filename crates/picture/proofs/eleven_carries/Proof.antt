@@ -37,14 +37,14 @@ number-requires c κs = search needs
 returns : tie.Need-returns
 returns c = search (eleven-number, needs)
 
-mul-t15 : tie.Need-mul-t15
-mul-t15 c = search needs
+mul-t16 : tie.Need-mul-t16
+mul-t16 c = search needs
 
-add-t16 : tie.Need-add-t16
-add-t16 c = search needs
+add-t17 : tie.Need-add-t17
+add-t17 c = search needs
 
-add-t18 : tie.Need-add-t18
-add-t18 c = search needs
+add-t19 : tie.Need-add-t19
+add-t19 c = search needs
 
 returns-2 : tie.Need-returns-2
 returns-2 c = search (edge-number, needs)
@@ -70,9 +70,9 @@ eleven-carries-spec =
     column-requires
     number-requires
     returns
-    mul-t15
-    add-t16
-    add-t18
+    mul-t16
+    add-t17
+    add-t19
     returns-2
     returns-3
     returns-4)

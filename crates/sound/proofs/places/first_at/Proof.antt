@@ -6,6 +6,7 @@ use native.Mathlib.Omega.{arith}
 use borrow.Author.Needs.{needs}
 use Rattle.rules.specs.declared.System.{System}
 use Rattle.rules.specs.Systems.{halfOf}
+use Rattle.rules.specs.Sound.{firstAt}
 use Rattle.rules.proofs.Systems.{half-cases}
 use Rattle.rules.proofs.Sound.{Half, half-some}
 use Rattle.sound.specs.Asked.{First}
@@ -18,6 +19,9 @@ half-of y s e = subst Half (sym e) (half-cases y)
 asked : (y : System) (s q a : ℕ) → s ≡ halfOf y → First s (q % s) (a % 9)
 asked y s q a e = record { half = half-of y s e; row = mod-lt q (half-some s (half-of y s e)); audio = omega arith }
 
+first-is : (y : System) (s q a t : ℕ) → s ≡ halfOf y → t ≡ firstAt s (q % s) (a % 9) → t ≡ firstAt (halfOf y) (q % halfOf y) (a % 9)
+first-is y s q a t es et = rw (← es) et
+
 half-requires : tie.Need-half-requires
 half-requires c κs = search needs
 
@@ -25,10 +29,10 @@ rem-first-of : tie.Need-rem-first-of
 rem-first-of c = half-some _ (half-of _ _ (c .half .ensures))
 
 first-of-requires : tie.Need-first-of-requires
-first-of-requires c κs = asked _ _ _ _ (c .half .ensures)
+first-of-requires c κs = search (asked, needs)
 
 returns : tie.Need-returns
-returns c = rw (← c .before .half .ensures) (c .first-of .ensures)
+returns c = search (first-is, needs)
 
 pub first-at-spec : {M : Type 1} → statement M
 first-at-spec = tie.close (tie.spec half-requires rem-first-of first-of-requires returns)

@@ -7,8 +7,8 @@ use Rattle.rules.proofs.Sound.{first-below, half-ge, half-le}
 use Rattle.sound.proofs.places.first_of.Statement.{statement}
 use Rattle.sound.proofs.places.first_of.Tie as tie
 
-low : (c : tie.Start) → firstAt (c .args .s) (c .args .r) (c .args .a) < 9 * c .args .s
-low c = first-below (c .args .s) (c .pre .half) (c .args .r) (c .args .a) (c .pre .row) (c .pre .audio)
+low : (c : tie.Start) → firstAt (c .args .s) (c .args .r) (c .args .audio .0) < 9 * c .args .s
+low c = first-below (c .args .s) (c .pre .half) (c .args .r) (c .args .audio .0) (c .pre .row) (c .pre .audio)
 
 few : (c : tie.Start) → c .args .s ≤ 6
 few c = half-le (c .args .s) (c .pre .half)

@@ -1,6 +1,6 @@
--- `writer::sequence::write_row` meets its contract: the audio block, then the video blocks. Assumes nothing.
+-- `writer::sequence::write_row` meets its contract: the audio block, then the video blocks behind it. Assumes nothing.
 use borrow.Author.Needs.{needs}
-use Rattle.writer.proofs.Whole.{row-done}
+use Rattle.writer.proofs.Whole.{videos-asked, row-done}
 use Rattle.writer.proofs.sequence.write_row.Statement.{statement}
 use Rattle.writer.proofs.sequence.write_row.Tie as tie
 
@@ -28,8 +28,11 @@ part-write-videos-start c = search needs
 part-write-videos-end : tie.Need-part-write-videos-end
 part-write-videos-end c = search needs
 
+behind-requires : tie.Need-behind-requires
+behind-requires c κs = search needs
+
 write-videos-requires : tie.Need-write-videos-requires
-write-videos-requires c κs = search needs
+write-videos-requires c κs = search (videos-asked, needs)
 
 same-length : tie.Need-same-length
 same-length c = search needs
@@ -49,6 +52,7 @@ write-row-spec =
     sub-write-videos
     part-write-videos-start
     part-write-videos-end
+    behind-requires
     write-videos-requires
     same-length
     returns)

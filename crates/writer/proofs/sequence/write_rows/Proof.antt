@@ -1,24 +1,26 @@
--- `writer::sequence::write_rows` meets its contract: the first rows are written, and the rest is as it was. Assumes nothing.
+-- `writer::sequence::write_rows` meets its contract: row by row, each from its place on. Assumes nothing.
 use mathlib.Core.Path.{_≡_, refl}
-use Prim.Native.Nat.{_-_, _≤_}
+use Prim.Native.Nat.{_+_, _-_, _*_, _≤_}
 use native.Mathlib.Omega.{arith}
 use lib.ListN.{length}
 use borrow.Author.Needs.{needs}
-use Rattle.base.proofs.Filling.{Filled, filled-none}
 use Rattle.rules.specs.Write.{lent}
-use Rattle.writer.specs.Rows.{rowBlocks}
-use Rattle.writer.proofs.Whole.{row-asked, rows-turn, rows-done}
+use Rattle.writer.specs.Asked.{Begun}
+use Rattle.writer.proofs.Whole.{row-ends, row-asked, rows-turn, rows-done}
 use Rattle.writer.proofs.sequence.write_rows.Statement.{statement}
 use Rattle.writer.proofs.sequence.write_rows.Tie as tie
 
 abbrev Inv-loop : tie.InvT-loop
-Inv-loop part₀ y h q count sound macroblocks time group a₀ part a = Filled 1280 (rowBlocks y (lent count sound macroblocks time group) h q) a part₀ part × (length part ≡ length part₀) × (a ≤ 9)
+Inv-loop part₀ y h q count sound macroblocks time group a₀ part a = Begun part y h q (lent count sound macroblocks time group) (6 + 16 * a) × (length part ≡ length part₀) × (a ≤ 9)
 
 abbrev μ-loop : tie.MeasureT-loop
 μ-loop part₀ y h q count sound macroblocks time group a₀ part a = 9 - a
 
 loop-holds : tie.Need-loop-holds Inv-loop μ-loop
-loop-holds c = (filled-none 1280 _ _, refl, omega arith)
+loop-holds c = (search needs, refl, omega arith)
+
+place-in-requires : tie.Need-place-in-requires Inv-loop μ-loop
+place-in-requires c κs = search needs
 
 cast-at : tie.Need-cast-at Inv-loop μ-loop
 cast-at c = search needs
@@ -36,7 +38,7 @@ part-write-row-start : tie.Need-part-write-row-start Inv-loop μ-loop
 part-write-row-start c = search needs
 
 part-write-row-end : tie.Need-part-write-row-end Inv-loop μ-loop
-part-write-row-end c = search needs
+part-write-row-end c = search (row-ends, needs)
 
 write-row-requires : tie.Need-write-row-requires Inv-loop μ-loop
 write-row-requires c κs = search (row-asked, needs)
@@ -63,6 +65,7 @@ write-rows-spec =
     Inv-loop
     μ-loop
     loop-holds
+    place-in-requires
     cast-at
     mul-at
     add-to

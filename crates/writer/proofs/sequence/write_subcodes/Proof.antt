@@ -1,22 +1,26 @@
--- `writer::sequence::write_subcodes` meets its contract: the first blocks are written, and the rest is as it was. Assumes nothing.
+-- `writer::sequence::write_subcodes` meets its contract: each block in its turn, at its place. Assumes nothing.
 use mathlib.Core.Path.{_≡_, refl}
-use Prim.Native.Nat.{_-_, _≤_}
+use Prim.Native.Nat.{_+_, _-_, _≤_}
 use native.Mathlib.Omega.{arith}
 use lib.ListN.{length}
 use borrow.Author.Needs.{needs}
-use Rattle.base.proofs.Filling.{Filled, filled-none}
-use Rattle.writer.proofs.Whole.{subcode-in, subcodes-turn, subcodes-done}
+use Rattle.rules.specs.Write.{lent}
+use Rattle.writer.specs.Asked.{Begun}
+use Rattle.writer.proofs.Whole.{subcode-ends, subcodes-turn, subcodes-done}
 use Rattle.writer.proofs.sequence.write_subcodes.Statement.{statement}
 use Rattle.writer.proofs.sequence.write_subcodes.Tie as tie
 
 abbrev Inv-loop : tie.InvT-loop
-Inv-loop part₀ y h q count sound macroblocks time group k₀ part k = Filled 80 (subcode-in y h q count sound macroblocks time group) k part₀ part × (length part ≡ length part₀) × (k ≤ 2)
+Inv-loop part₀ y h q count sound macroblocks time group k₀ part k = Begun part y h q (lent count sound macroblocks time group) (1 + k) × (length part ≡ length part₀) × (k ≤ 2)
 
 abbrev μ-loop : tie.MeasureT-loop
 μ-loop part₀ y h q count sound macroblocks time group k₀ part k = 2 - k
 
 loop-holds : tie.Need-loop-holds Inv-loop μ-loop
-loop-holds c = (filled-none 80 _ _, refl, omega arith)
+loop-holds c = (search needs, refl, omega arith)
+
+place-in-requires : tie.Need-place-in-requires Inv-loop μ-loop
+place-in-requires c κs = search needs
 
 cast-at : tie.Need-cast-at Inv-loop μ-loop
 cast-at c = search needs
@@ -37,7 +41,7 @@ part-put-subcode-start : tie.Need-part-put-subcode-start Inv-loop μ-loop
 part-put-subcode-start c = search needs
 
 part-put-subcode-end : tie.Need-part-put-subcode-end Inv-loop μ-loop
-part-put-subcode-end c = search needs
+part-put-subcode-end c = search (subcode-ends, needs)
 
 id-requires : tie.Need-id-requires Inv-loop μ-loop
 id-requires c κs = search needs
@@ -67,6 +71,7 @@ write-subcodes-spec =
     Inv-loop
     μ-loop
     loop-holds
+    place-in-requires
     cast-at
     mul-at
     add-to

@@ -10,10 +10,10 @@ use Rattle.writer.proofs.sequence.write_videos.Statement.{statement}
 use Rattle.writer.proofs.sequence.write_videos.Tie as tie
 
 abbrev Inv-loop : tie.InvT-loop
-Inv-loop part₀ y h q a count sound macroblocks time group j₀ part j = Filled 80 (video-in y h q count sound macroblocks time group a) j part₀ part × (length part ≡ length part₀) × (j ≤ 15)
+Inv-loop part₀ y h q count sound macroblocks time group v j₀ part j = Filled 80 (video-in y h q count sound macroblocks time group v) j part₀ part × (length part ≡ length part₀) × (j ≤ 15)
 
 abbrev μ-loop : tie.MeasureT-loop
-μ-loop part₀ y h q a count sound macroblocks time group j₀ part j = 15 - j
+μ-loop part₀ y h q count sound macroblocks time group v j₀ part j = 15 - j
 
 loop-holds : tie.Need-loop-holds Inv-loop μ-loop
 loop-holds c = (filled-none 80 _ _, refl, omega arith)
@@ -27,11 +27,8 @@ mul-at c = search needs
 add-to : tie.Need-add-to Inv-loop μ-loop
 add-to c = search needs
 
-mul-v : tie.Need-mul-v Inv-loop μ-loop
-mul-v c = search needs
-
-add-v : tie.Need-add-v Inv-loop μ-loop
-add-v c = search needs
+add-t18 : tie.Need-add-t18 Inv-loop μ-loop
+add-t18 c = search needs
 
 sub-put-video : tie.Need-sub-put-video Inv-loop μ-loop
 sub-put-video c = search needs
@@ -46,7 +43,7 @@ id-requires : tie.Need-id-requires Inv-loop μ-loop
 id-requires c κs = search needs
 
 put-video-requires : tie.Need-put-video-requires Inv-loop μ-loop
-put-video-requires c κs = search (needs)
+put-video-requires c κs = search needs
 
 add-j : tie.Need-add-j Inv-loop μ-loop
 add-j c = search needs
@@ -73,8 +70,7 @@ write-videos-spec =
     cast-at
     mul-at
     add-to
-    mul-v
-    add-v
+    add-t18
     sub-put-video
     part-put-video-start
     part-put-video-end
