@@ -38,7 +38,7 @@ use Rattle.rules.specs.Audio.{countFor, audioNumber, AudioRead}
 use Rattle.rules.specs.Macroblock.{macroblockNumber, slotBytes, macroblockAt, slotStart, carrierStart, MacroblockRead, MacroblockLies}
 use Rattle.rules.specs.Time.{withBit6, settled, timeFirst, groupFirst, fourBytes, timeNumber, TimeRead}
 use Rattle.rules.specs.Paper.{sequences, start, byteAt, bytesAt, soundWord, sampleBy, slotPlace, carried}
-use Rattle.rules.specs.Demand2.{IdOut, ViewOut, MacroblockOut, Strict, StrictlyRead, ReadOut, answered}
+use Rattle.rules.specs.Demand2.{IdOut, ViewOut, MacroblockOut, Strict, StrictlyRead, ReadOut, firstAnswered}
 use Rattle.rules.proofs.Places.{code-one, code-section}
 use Rattle.rules.proofs.Blocks.{block-in-sequence, block-length, part-taken}
 use Rattle.rules.proofs.Systems.{sequences-some}
@@ -196,7 +196,7 @@ module _ {k : ℕ} {f : List ℕ} {r : TimeAnswer} (read : TimeRead k f r) (z : 
   by-time : {P : Type 0} → ((y : System) → systemOf k ≡ Known y → P) → P
   by-time = by-system k (λ none. absurd (omega (arith, z, time-1 k f none)))
 
-  answer-out : (r .time ≡ answered k (byteAt (sequences k) f 0 0 1 31) ∷ bytesAt (sequences k) f 0 0 1 32 3) × (r .group ≡ bytesAt (sequences k) f 0 0 1 39 4)
+  answer-out : (r .time ≡ firstAnswered k (byteAt (sequences k) f 0 0 1 31) ∷ bytesAt (sequences k) f 0 0 1 32 3) × (r .group ≡ bytesAt (sequences k) f 0 0 1 39 4)
   answer-out =
       by-time (λ y known.
       let col = columns k y known in

@@ -71,9 +71,9 @@ pub record StrictlyRead (k : ℕ) (f : List ℕ) (c : ℕ) (samples : List ℤ) 
   pub part : MacroblockRead k f b (o .part)
   pub time : TimeRead k f (o .time)
 
--- "At 50 Hz bit 6 of PC1 is arbitrary: .. reading .. answers 1."
-abbrev pub answered : ℕ → ℕ → ℕ
-answered k pc1 = pick (eqb (rate k) 1) (pc1 / 128 * 128 + 64 + pc1 % 64) pc1
+-- the time code's first byte as it is answered: "At 50 Hz bit 6 of PC1 is arbitrary: .. reading .. answers 1."
+abbrev pub firstAnswered : ℕ → ℕ → ℕ
+firstAnswered k pc1 = pick (eqb (rate k) 1) (pc1 / 128 * 128 + 64 + pc1 % 64) pc1
 
 pub record ReadOut (k : ℕ) (f : List ℕ) (c : ℕ) (samples : List ℤ) (b : ℕ) (o : Strict) : Type 0 where
   -- "packs, the place of each audio sample"
@@ -85,7 +85,7 @@ pub record ReadOut (k : ℕ) (f : List ℕ) (c : ℕ) (samples : List ℤ) (b : 
   pub macroblock : o .number ≡ 0 → (h q g m : ℕ) → h < 4 → q < sequences k → g < 27 → m < 5 → carried k h q g m ≡ Macroblock b
       → o .part ≡ bytesAt (sequences k) f h q (slotPlace (5 * g + m)) 3 77
   -- SSYB 3 and 4 of DIF channel 0, sequence 0, in SC0: their packs stand from bytes 30 and 38 on
-  pub time : o .time .number ≡ 0 → o .time .time ≡ answered k (byteAt (sequences k) f 0 0 1 31) ∷ bytesAt (sequences k) f 0 0 1 32 3
+  pub time : o .time .number ≡ 0 → o .time .time ≡ firstAnswered k (byteAt (sequences k) f 0 0 1 31) ∷ bytesAt (sequences k) f 0 0 1 32 3
   pub group : o .time .number ≡ 0 → o .time .group ≡ bytesAt (sequences k) f 0 0 1 39 4
 
 -- all of them go through
@@ -126,7 +126,7 @@ pub record ReadsBack (l : Lent) (c : ℕ) (samples : List ℤ) (b : ℕ) (o : St
   pub part : o .part ≡ take 77 (drop (77 * b) (l .macroblocks))
   pub time : o .time ≡ record { number = 0; time = l .timeCode; group = l .binaryGroup }
 
--- the writer was lent l, answered 0 and left f; what it takes is its refusal table's
+-- the writer was lent l, firstAnswered 0 and left f; what it takes is its refusal table's
 pub record WritesBack (k : ℕ) (l : Lent) (f : List ℕ) : Type 0 where
   pub laid-out : LaidOut k l f
   pub reads-back : (c : ℕ) (samples : List ℤ) (b : ℕ) (o : Strict) → 0 < c → c < 9 → length samples ≡ positions k → b < macroblocks k

@@ -1,4 +1,5 @@
--- The rules that the demands stand on, in document 01's own numbers, apart from the definitions that the rest is written in.
+-- What the definitions are in document 01's own numbers: the proofs of the demands go through it, and it says what no call shows, as the way back
+-- from a block to its place and from a macroblock to its slot.
 use mathlib.Core.Path.{_≡_}
 use mathlib.Core.Bool.{true, false, _||_}
 use mathlib.Core.List.{List, [], _∷_}
