@@ -9,8 +9,8 @@ use lib.Dec.{eqb}
 use lib.IntN.{ℤ, pos, negsuc}
 use lib.ListN.{length, getD}
 use Rattle.base.specs.Pick.{pick}
-use Rattle.rules.specs.Paper.{sequences, positions, fewer, more, macroblocks, rate, stype, lastFrame, byteAt, streamFault, fault, soundChannel, soundFirst}
-use Rattle.rules.specs.Paper.{asPlace, countBy, countSaid, vauxPlace, vauxByte, vsPack, ssybPlace, ssybByte, holdsTime, holdsGroup}
+use Rattle.rules.specs.Paper.{sequences, positions, fewer, more, macroblocks, rate, stype, lastFrame, byteAt, streamFault, fault, soundChannel}
+use Rattle.rules.specs.Paper.{soundFirst, asPlace, countBy, countSaid, vauxPlace, vauxByte, vsPack, ssybPlace, ssybByte, holdsTime, holdsGroup}
 use Rattle.rules.specs.Written.{Lent}
 
 -- ---- a table says which number is given
