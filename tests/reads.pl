@@ -518,7 +518,7 @@ sub good {
 my %patches;
 
 sub read_patches {
-    my $file = 'crates/reads/src/tables.rt';
+    my $file = 'crates/try_reads/src/tables.rt';
     open my $in, '<', $file or die "reads.pl: $file: $!\n";
     my $name;
     while (my $line = <$in>) {

@@ -1,11 +1,11 @@
 #!/bin/bash
 # The library's strict reads and salvage beside tests/reads.pl, which is written from the paper alone: each line that the test program
-# reads has stored is the one that reads.pl prints. A difference fails.
+# try_reads has stored is the one that reads.pl prints. A difference fails.
 set -u
 cd "$(dirname "$0")/.."
 work=$(mktemp -d)
 trap 'rm -rf "$work"' EXIT
-stored=crates/reads/stdout
+stored=crates/try_reads/stdout
 agree=0 differ=0
 
 perl tests/reads.pl >"$work/ours"

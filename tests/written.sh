@@ -1,11 +1,11 @@
 #!/bin/bash
-# The library's writer beside tests/written.pl, which is written from the paper alone: the checksums that the test program written
+# The library's writer beside tests/written.pl, which is written from the paper alone: the checksums that the test program try_writer
 # has stored are those of written.pl's frames, and the frame stored for the survey program is one of these. A difference fails.
 set -u
 cd "$(dirname "$0")/.."
 work=$(mktemp -d)
 trap 'rm -rf "$work"' EXIT
-stored=crates/written/stdout
+stored=crates/try_writer/stdout
 passed=0 failed=0
 
 # result NAME DIFFERENCE: a case passes where there is no difference

@@ -59,15 +59,15 @@ module _ {A : Type 0} where
   run-split f a (suc m) = rw add-suc (ap (λ (l : List A). l ++ f (a + m)) (run-split f a m) ∙ append-assoc (run f a) (run (λ (i : ℕ). f (a + i)) m) (f (a + m)))
 
   -- a run of runs of n is one run
-  pub run-rows : (f : ℕ → ℕ → List A) (n h : ℕ) → 0 < n → run (λ (k : ℕ). f (k / n) (k % n)) (n * h) ≡ run (λ (r : ℕ). run (f r) n) h
+  pub run-runs : (f : ℕ → ℕ → List A) (n h : ℕ) → 0 < n → run (λ (k : ℕ). f (k / n) (k % n)) (n * h) ≡ run (λ (r : ℕ). run (f r) n) h
   unfolding run
-  run-rows f n zero p = rw mul-zero
-  run-rows f n (suc h) p =
+  run-runs f n zero p = rw mul-zero
+  run-runs f n (suc h) p =
       let row : (i : ℕ) → i < n → f ((n * h + i) / n) ((n * h + i) % n) ≡ f h i =
       λ i l. rw (mul-add-div p h i, mul-add-mod-self-left n h i, div-eq-of-lt l, mod-eq-of-lt l, add-zero) in
       rw mul-suc
       (run-split (λ k. f (k / n) (k % n)) (n * h) n
-      ∙ rw (run-rows f n h p, run-same (λ i. f ((n * h + i) / n) ((n * h + i) % n)) (f h) n row))
+      ∙ rw (run-runs f n h p, run-same (λ i. f ((n * h + i) / n) ((n * h + i) % n)) (f h) n row))
 
   -- a list is the run of its parts
   pub run-parts : (w k : ℕ) (l : List A) → run (λ (j : ℕ). take w (drop (j * w) l)) k ≡ take (k * w) l

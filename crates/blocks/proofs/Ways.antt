@@ -36,10 +36,10 @@ use Rattle.rules.specs.Subcode.{kindOf, subcodePack, frByte, ssyb, ssybs, subco
 use Rattle.rules.specs.Vaux.{vauxPack, vauxPacks, vauxBytes}
 use Rattle.rules.specs.Aaux.{aauxPack}
 use Rattle.rules.specs.Samples.{wordFor, bytesOf}
-use Rattle.rules.specs.Sound.{audioAt, rowAt, firstAt}
+use Rattle.rules.specs.Sound.{audioAt, rankAt, firstAt}
 use Rattle.rules.specs.Picture.{slot, carriedIn}
-use Rattle.rules.specs.Written.{Lent, storedWord, wordBytes, audioBytes, carriedBytes}
-use Rattle.rules.specs.Write.{lent}
+use Rattle.rules.specs.Written.{Contents, storedWord, wordBytes, audioBytes, carriedBytes}
+use Rattle.rules.specs.Write.{contentsOf}
 use Rattle.rules.proofs.Systems.{half-cases, half-twice, count-below, positions-le, count-turns}
 use Rattle.rules.proofs.Samples.{word-below}
 use Rattle.rules.proofs.Sound.{Half, half-some, half-le, first-below, audio-within}
@@ -219,7 +219,7 @@ module _ (sound : List ℤ) (c count : ℕ) (c1 : 0 < c) (c8 : c < 9) (sounds : 
   samples-at t h = getD-take count (drop ((c - 1) * count) sound) t (pos 0) h ∙ getD-drop ((c - 1) * count) sound t (pos 0)
 
   -- their words are those that are stored
-  pub samples-stored : (l : Lent) (t : ℕ) → l .count ≡ count → l .sound ≡ sound → sampleWord (samplesOf sound c count) t ≡ storedWord l c t
+  pub samples-stored : (l : Contents) (t : ℕ) → l .count ≡ count → l .sound ≡ sound → sampleWord (samplesOf sound c count) t ≡ storedWord l c t
   unfolding sampleWord storedWord
   samples-stored l t en es =
       by-lt t count
@@ -253,8 +253,8 @@ module _ (xs : List ℕ) (y : System) (h q count a : ℕ) (sound : List ℤ) (as
       sounds = asked .sounds;
     }
 
-    module _ (samples : List ℤ) (em : samples ≡ samplesOf sound c count) (first : ℕ) (ef : first ≡ firstAt (halfOf y) (rowAt (halfOf y) q) (a % 9)) where
-      first-is : first ≡ firstAt s (rowAt s q) a
+    module _ (samples : List ℤ) (em : samples ≡ samplesOf sound c count) (first : ℕ) (ef : first ≡ firstAt (halfOf y) (rankAt (halfOf y) q) (a % 9)) where
+      first-is : first ≡ firstAt s (rankAt s q) a
       first-is = ef ∙ rw (← es, mod-eq-of-lt (asked .below)) refl
 
       pub words-asked : (part : List ℕ) → length part ≡ 72 → WordsAsked part samples first (9 * s)
@@ -264,21 +264,21 @@ module _ (xs : List ℕ) (y : System) (h q count a : ℕ) (sound : List ℤ) (as
           record {
             long = n;
             turns = omega (arith, len, rw (← es) at turns);
-            start = rw first-is (first-below s half (rowAt s q) a (mod-lt q (half-some s half)) (asked .below));
+            start = rw first-is (first-below s half (rankAt s q) a (mod-lt q (half-some s half)) (asked .below));
             few = omega (arith, half-le s half);
           }
 
       words-are : (macroblocks time group : List ℕ)
-          → run (wordPair samples first (9 * s)) 36 ≡ run (wordBytes y (lent count sound macroblocks time group) h q a) 36
+          → run (wordPair samples first (9 * s)) 36 ≡ run (wordBytes y (contentsOf count sound macroblocks time group) h q a) 36
       unfolding wordPair wordBytes
       words-are macroblocks time group =
           run-same _ _ 36 (λ w hw.
           rw (em, first-is, ← es, ← ec)
-          (ap bytesOf (samples-stored sound c count (within .0) (within .1) (asked .sounds) (lent count sound macroblocks time group) (9 * s * w + firstAt s (rowAt s q) a) refl refl)))
+          (ap bytesOf (samples-stored sound c count (within .0) (within .1) (asked .sounds) (contentsOf count sound macroblocks time group) (9 * s * w + firstAt s (rankAt s q) a) refl refl)))
 
       pub audio-done : (zs ps ws macroblocks time group : List ℕ) (id : BlockId) (p : Pack) → zs ≡ idBytes id → p ≡ aauxPack y count c q a → ps ≡ packBytes p
           → ws ≡ run (wordPair samples first (9 * s)) 36
-          → putMid 8 72 (putMid 3 5 (zs ++ postOf 0 3 xs) ps) ws ≡ idBytes id ++ audioBytes y (lent count sound macroblocks time group) h q a
+          → putMid 8 72 (putMid 3 5 (zs ++ postOf 0 3 xs) ps) ws ≡ idBytes id ++ audioBytes y (contentsOf count sound macroblocks time group) h q a
       unfolding idBytes audioBytes
       audio-done zs ps ws macroblocks time group id p ez ep eps ew =
           let rest : drop 72 (drop 5 (drop 3 xs)) ≡ [] = ap (drop 72) (drop-drop 5 3 xs) ∙ drop-drop 72 8 xs ∙ none-left 80 xs (asked .long) in

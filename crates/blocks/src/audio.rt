@@ -9,7 +9,7 @@ ghost use Rattle.rules.specs.Systems.{halfOf};
 ghost use Rattle.rules.specs.Ids.{idBytes};
 ghost use Rattle.rules.specs.Sound.{audioAt};
 ghost use Rattle.rules.specs.Written.{audioBytes};
-ghost use Rattle.rules.specs.Write.{lent};
+ghost use Rattle.rules.specs.Write.{contentsOf};
 ghost use Rattle.blocks.specs.Asked.{WordsAsked, ChannelAsked, SamplesAsked, AudioAsked};
 ghost use Rattle.blocks.specs.Fits.{audioFits};
 ghost use Rattle.blocks.specs.Words.{sampleWord, wordPair, samplesOf};
@@ -82,7 +82,7 @@ fn write_audio(
     a: BlockNumber,
 )
     requires { ⌜ AudioAsked (now block) y h q count (now sound) (a .0) ⌝ }
-    ensures { λ _. ⌜ now (block .exit) ≡ idBytes id ++ audioBytes y (lent count (now (sound .entry)) (now (macroblocks .entry)) (now (time .entry)) (now (group .entry))) h q (a .0) ⌝ }
+    ensures { λ _. ⌜ now (block .exit) ≡ idBytes id ++ audioBytes y (contentsOf count (now (sound .entry)) (now (macroblocks .entry)) (now (time .entry)) (now (group .entry))) h q (a .0) ⌝ }
 {
     let s = layout::half(y);
     let c = audio_at(s, h, q);
@@ -127,7 +127,7 @@ pub fn put_audio(
     group: &[u8],
     a: BlockNumber,
 )
-    ensures { λ _. ⌜ now (block .exit) ≡ pick (audioFits (length (now (block .entry))) y h q count (length (now (sound .entry))) (a .0)) (idBytes id ++ audioBytes y (lent count (now (sound .entry)) (now (macroblocks .entry)) (now (time .entry)) (now (group .entry))) h q (a .0)) (now (block .entry)) ⌝ }
+    ensures { λ _. ⌜ now (block .exit) ≡ pick (audioFits (length (now (block .entry))) y h q count (length (now (sound .entry))) (a .0)) (idBytes id ++ audioBytes y (contentsOf count (now (sound .entry)) (now (macroblocks .entry)) (now (time .entry)) (now (group .entry))) h q (a .0)) (now (block .entry)) ⌝ }
 {
     let fits = audio_fits(block.len(), y, h, q, count, sound.len(), a);
     if fits {

@@ -10,7 +10,7 @@ ghost use Rattle.rules.specs.Salvage.{Salvaged};
 ghost use Rattle.rules.specs.Survey.{FrameSurveyed, SequenceSurveyed};
 ghost use Rattle.rules.specs.Time.{TimeRead};
 ghost use Rattle.rules.specs.View.{ViewLies};
-ghost use Rattle.rules.specs.Write.{lent, Wrote};
+ghost use Rattle.rules.specs.Write.{contentsOf, Wrote};
 use rules::AudioAnswer;
 use rules::IdValues;
 use rules::Part;
@@ -123,7 +123,7 @@ pub extern "C" fn dv100_write(
     binary_group: &[u8],
     frame: &mut [u8],
 ) -> u32
-    ensures { λ r. ⌜ Wrote system (lent count (now (sound .entry)) (now (macroblocks .entry)) (now («time_code» .entry)) (now («binary_group» .entry))) (now (frame .entry)) r (now (frame .exit)) ⌝ }
+    ensures { λ r. ⌜ Wrote system (contentsOf count (now (sound .entry)) (now (macroblocks .entry)) (now («time_code» .entry)) (now («binary_group» .entry))) (now (frame .entry)) r (now (frame .exit)) ⌝ }
 {
     writer::write_frame(
         system,

@@ -26,7 +26,7 @@ use Rattle.rules.proofs.Systems.{sequences-le, half-twice}
 use Rattle.rules.proofs.Places.{place-in-below, place-for}
 use Rattle.rules.proofs.Vaux.{vs-below}
 use Rattle.rules.proofs.Aaux.{as-below}
-use Rattle.judges.specs.Asked.{sequenceFrom, Low, Start, PackAsked, FirstRow}
+use Rattle.judges.specs.Asked.{sequenceFrom, Low, Start, PackAsked, FirstInHalf}
 
 -- ---- sequences
 
@@ -44,13 +44,13 @@ module _ (y : System) (h q : ℕ) where
 half-le : (y : System) → halfOf y ≤ 6
 half-le y = omega (arith, half-twice y, sequences-le y)
 
-pub row-le : (y : System) (s c : ℕ) → s ≡ halfOf y → s * (1 - c % 2) ≤ 6
-row-le y s c e = omega (arith, half-le y, e, mul-le-mul-left {m = 1 - c % 2} {n = 1} s (omega arith))
+pub first-le : (y : System) (s c : ℕ) → s ≡ halfOf y → s * (1 - c % 2) ≤ 6
+first-le y s c e = omega (arith, half-le y, e, mul-le-mul-left {m = 1 - c % 2} {n = 1} s (omega arith))
 
-pub row-way : (y : System) (s c : ℕ) → s ≡ halfOf y → FirstRow y c (s * (1 - c % 2))
-row-way y s c e =
+pub first-way : (y : System) (s c : ℕ) → s ≡ halfOf y → FirstInHalf y c (s * (1 - c % 2))
+first-way y s c e =
     let same : 1 - c % 2 ≡ (c + 1) % 2 = omega arith in
-    record { is = rw (e, same) refl; few = omega (arith, row-le y s c e) }
+    record { is = rw (e, same) refl; few = omega (arith, first-le y s c e) }
 
 -- ---- bytes
 

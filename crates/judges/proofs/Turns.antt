@@ -13,12 +13,12 @@ use Rattle.rules.specs.declared.SubcodePack.{SubcodePack}
 use Rattle.rules.specs.Systems.{sequencesOf, halfOf}
 use Rattle.rules.specs.Subcode.{kindOf}
 use Rattle.rules.specs.Check.{everyFrom, everySequence}
-use Rattle.rules.specs.Audio.{everyRow}
+use Rattle.rules.specs.Audio.{everyInHalf}
 use Rattle.rules.specs.Sound.{difOf}
 use Rattle.rules.specs.Time.{ssybIn, packAgrees, subcodeAgrees}
 use Rattle.rules.proofs.Systems.{sequences-le, half-twice}
 use Rattle.judges.specs.declared.Test.{Test}
-use Rattle.judges.specs.Asked.{sequenceFrom, Start, FirstRow, RowsAsked}
+use Rattle.judges.specs.Asked.{sequenceFrom, Start, FirstInHalf, SequencesAsked}
 use Rattle.judges.specs.Tests.{testOf}
 use Rattle.judges.proofs.Places.{start-is}
 
@@ -48,15 +48,15 @@ unfolding everyFrom
 start-holds y frame h q test = refl
 
 module _ (y : System) (frame : List ℕ) (test : Test) (h q r : ℕ) (good : Bool) (so-far : good ≡ everyFrom y frame h q r (testOf y test)) where
-  pub row-turn : (at : ℕ) (x : Bool) → Start y h (q + r) at → x ≡ testOf y test (q + r) (sequenceFrom frame at)
+  pub from-turn : (at : ℕ) (x : Bool) → Start y h (q + r) at → x ≡ testOf y test (q + r) (sequenceFrom frame at)
       → (x && good) ≡ everyFrom y frame h q (r + 1) (testOf y test)
   unfolding everyFrom
-  row-turn at x s ex =
+  from-turn at x s ex =
       let here = ex ∙ ap (testOf y test (q + r)) (start-is y h (q + r) frame at s) in
       rw (here, so-far) (below-more _ r)
 
-  pub rows-done : (k : ℕ) → r ≤ k → k ≤ r → good ≡ everyFrom y frame h q k (testOf y test)
-  rows-done k le ge = let all : r ≡ k = omega arith in so-far ∙ rw all refl
+  pub from-done : (k : ℕ) → r ≤ k → k ≤ r → good ≡ everyFrom y frame h q k (testOf y test)
+  from-done k le ge = let all : r ≡ k = omega arith in so-far ∙ rw all refl
 
 -- ---- the DIF channels
 
@@ -75,13 +75,13 @@ module _ (y : System) (frame : List ℕ) (test : Test) (h : ℕ) (good : Bool) (
   unfolding everyIn everySequence
   channels-done le ge = let all : h ≡ 4 = omega arith in so-far ∙ rw all refl
 
-pub all-asked : (y : System) (n : ℕ) → n ≡ sequencesOf y → RowsAsked 0 n
+pub all-asked : (y : System) (n : ℕ) → n ≡ sequencesOf y → SequencesAsked 0 n
 all-asked y n e = record { first = omega arith; few = omega (arith, e, sequences-le y) }
 
 -- ---- the half of an audio channel
 
-pub half-asked : (y : System) (c q s : ℕ) → FirstRow y c q → s ≡ halfOf y → RowsAsked q s
+pub half-asked : (y : System) (c q s : ℕ) → FirstInHalf y c q → s ≡ halfOf y → SequencesAsked q s
 half-asked y c q s f e = record { first = omega (arith, f .few); few = omega (arith, e, half-twice y, sequences-le y) }
 
-pub half-done : (y : System) (frame : List ℕ) (test : Test) (c q h s : ℕ) (x : Bool) → FirstRow y c q → h ≡ difOf c → s ≡ halfOf y → x ≡ everyFrom y frame h q s (testOf y test) → x ≡ everyRow y frame c (testOf y test)
+pub half-done : (y : System) (frame : List ℕ) (test : Test) (c q h s : ℕ) (x : Bool) → FirstInHalf y c q → h ≡ difOf c → s ≡ halfOf y → x ≡ everyFrom y frame h q s (testOf y test) → x ≡ everyInHalf y frame c (testOf y test)
 half-done y frame test c q h s x f eh es ex = ex ∙ rw (f .is, eh, es) refl

@@ -22,7 +22,7 @@ use Rattle.rules.specs.Sound.{difOf}
 use Rattle.rules.specs.Time.{ssybIn, timeFirst, groupFirst, withBit6, settled, samePack, packAgrees, subcodeAgrees}
 use Rattle.judges.specs.declared.Test.{Test}
 use Rattle.judges.specs.declared.Test.the-variants.{Dsf, Vs, Unflagged, AsKeeps, CountIs, Subcode}
-use Rattle.judges.specs.Asked.{sequenceFrom, Start, FirstRow}
+use Rattle.judges.specs.Asked.{sequenceFrom, Start, FirstInHalf}
 use Rattle.judges.specs.Tests.{testOf}
 use Rattle.judges.proofs.Places.{start-is}
 
@@ -97,7 +97,7 @@ module _ (y : System) (frame : List ℕ) (at : ℕ) where
   unfolding groupFirst
   group-way p s e = e ∙ ap (ssybIn 4) (start-is y 0 0 frame at s)
 
-  pub count-way : (c h q k : ℕ) (p : Pack) → FirstRow y c q → h ≡ difOf c → Start y h q at → p ≡ asIn q (sequenceFrom frame at) → k ≡ countIn p → k ≡ countFor y frame c
+  pub count-way : (c h q k : ℕ) (p : Pack) → FirstInHalf y c q → h ≡ difOf c → Start y h q at → p ≡ asIn q (sequenceFrom frame at) → k ≡ countIn p → k ≡ countFor y frame c
   unfolding countFor
   count-way c h q k p eq eh s ep ek =
       ek

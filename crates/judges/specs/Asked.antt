@@ -31,11 +31,11 @@ pub record SsybAsked (at k : ℕ) : Type 0 where
   pub below : k < 12
 
 -- r is the first sequence of an audio channel's half
-pub record FirstRow (y : System) (c r : ℕ) : Type 0 where
+pub record FirstInHalf (y : System) (c r : ℕ) : Type 0 where
   pub is : r ≡ firstOfHalf y c
   pub few : r < 7
 
 -- k sequences from sequence q on
-pub record RowsAsked (q k : ℕ) : Type 0 where
+pub record SequencesAsked (q k : ℕ) : Type 0 where
   pub first : q < 13
   pub few : k < 13

@@ -2,8 +2,8 @@
 ghost use mathlib.Core.Path.{_≡_};
 ghost use Rattle.rules.specs.Sound.{difOf};
 ghost use Rattle.rules.specs.Check.{everyFrom, everySequence};
-ghost use Rattle.rules.specs.Audio.{everyRow, countFor};
-ghost use Rattle.judges.specs.Asked.{FirstRow, RowsAsked};
+ghost use Rattle.rules.specs.Audio.{everyInHalf, countFor};
+ghost use Rattle.judges.specs.Asked.{FirstInHalf, SequencesAsked};
 ghost use Rattle.judges.specs.Tests.{testOf};
 use crate::Test;
 use crate::read;
@@ -19,15 +19,15 @@ fn dif(c: u32) -> u32
 }
 
 // The first sequence of its half: the second half is for even audio channels.
-fn first_row(y: System, c: u32) -> u32
-    ensures { λ r. ⌜ FirstRow y c r ⌝ }
+fn first_in_half(y: System, c: u32) -> u32
+    ensures { λ r. ⌜ FirstInHalf y c r ⌝ }
 {
     layout::half(y) * (1 - c % 2)
 }
 
 // So many sequences of DIF channel h, from sequence q on, pass.
 fn every_from(y: System, frame: &[u8], test: Test, h: u32, q: u32, k: u32) -> bool
-    requires { ⌜ RowsAsked q k ⌝ }
+    requires { ⌜ SequencesAsked q k ⌝ }
     ensures { λ r. ⌜ r ≡ everyFrom y (now (frame .entry)) h q k (testOf y test) ⌝ }
 {
     let mut good = true;
@@ -54,10 +54,10 @@ pub fn every_sequence(y: System, frame: &[u8], test: Test) -> bool
 }
 
 // Every sequence of an audio channel's half passes.
-pub fn every_row(y: System, frame: &[u8], audio: u32, test: Test) -> bool
-    ensures { λ r. ⌜ r ≡ everyRow y (now (frame .entry)) audio (testOf y test) ⌝ }
+pub fn every_in_half(y: System, frame: &[u8], audio: u32, test: Test) -> bool
+    ensures { λ r. ⌜ r ≡ everyInHalf y (now (frame .entry)) audio (testOf y test) ⌝ }
 {
-    let q = first_row(y, audio);
+    let q = first_in_half(y, audio);
     every_from(y, frame, test, dif(audio), q, layout::half(y))
 }
 
@@ -65,7 +65,7 @@ pub fn every_row(y: System, frame: &[u8], audio: u32, test: Test) -> bool
 pub fn count_for(y: System, frame: &[u8], audio: u32) -> u32
     ensures { λ r. ⌜ r ≡ countFor y (now (frame .entry)) audio ⌝ }
 {
-    let first = first_row(y, audio);
+    let first = first_in_half(y, audio);
     let at = read::start(y, dif(audio), first);
     packs::count_in(read::as_in(frame, at, first))
 }

@@ -5,7 +5,7 @@ mod sequence;
 mod subcode;
 
 pub use every::count_for;
-pub use every::every_row;
+pub use every::every_in_half;
 pub use every::every_sequence;
 use rules::Pack;
 pub use subcode::group_first;

@@ -48,7 +48,7 @@ const A: u32 = 96;
 
 const V: u32 = 128;
 
-// The 150 places, a line for each row of figure 3.
+// The 150 places, a line for the first six, then one for each bank.
 #[rattlefmt::skip]
 const FIGURE_3: [u32; 150] = [
     // H0, SC0, SC1, VA0, VA1, VA2

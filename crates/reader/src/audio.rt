@@ -22,7 +22,7 @@ pub fn read_audio(system: u32, frame: &[u8], audio: u32, samples: &mut [i32]) ->
         return refused(1);
     };
     let size = samples.len();
-    let number = asks_audio::audio_number(system, frame, audio, size);
+    let number = refuse_audio::audio_number(system, frame, audio, size);
     if number != 0 {
         return refused(number);
     }

@@ -5,5 +5,5 @@ ghost use Rattle.rules.specs.Check.{Checked};
 pub fn check_frame(system: u32, frame: &[u8]) -> u32
     ensures { λ r. ⌜ Checked system (now (frame .entry)) r ⌝ }
 {
-    asks::check_number(system, frame)
+    refuse_check::check_number(system, frame)
 }

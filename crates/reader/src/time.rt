@@ -30,7 +30,7 @@ pub fn read_time(system: u32, frame: &[u8]) -> TimeAnswer
     let SystemNumber::Known(y) = layout::system_of(system) else {
         return refused(1);
     };
-    let number = asks_time::time_number(system, frame);
+    let number = refuse_time::time_number(system, frame);
     if number != 0 {
         return refused(number);
     }

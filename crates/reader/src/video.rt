@@ -24,7 +24,7 @@ fn slot_start(y: System, h: u32, q: u32, v: BlockNumber) -> usize
 pub fn macroblock_number(system: u32, frame: &[u8], number: u32) -> u32
     ensures { λ r. ⌜ MacroblockNumbered system (now (frame .entry)) number r ⌝ }
 {
-    asks_video::macroblock_number(system, frame, number)
+    refuse_macroblock::macroblock_number(system, frame, number)
 }
 
 // Where a macroblock lies: its first byte and its length, 77; zeros where its number is a refusal.

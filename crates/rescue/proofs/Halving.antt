@@ -1,4 +1,4 @@
--- What a row and an audio channel add to the samples and the faults taken before; audio channels count from 0. Assumes nothing.
+-- What a sequence and an audio channel add to the samples and the faults taken before; audio channels count from 0. Assumes nothing.
 use mathlib.Core.Path.{_≡_, refl, sym, ap, ap₂, _∙_}
 use mathlib.Core.Bool.{Bool, true, false, not, _&&_}
 use mathlib.Core.List.{List}
@@ -16,22 +16,22 @@ use Rattle.rules.specs.declared.System.{System}
 use Rattle.rules.specs.declared.Section.the-variants.{Audio}
 use Rattle.rules.specs.Systems.{sequencesOf, halfOf, positionsOf}
 use Rattle.rules.specs.Blocks.{sequenceAt}
-use Rattle.rules.specs.Sound.{difOf, halfAt, rowOf, sequenceOf, audioOf, soundPlace, byteOf, rowAt}
+use Rattle.rules.specs.Sound.{difOf, halfAt, rankOf, sequenceOf, audioOf, soundPlace, byteOf, rankAt}
 use Rattle.rules.specs.Faults.{names}
 use Rattle.rules.specs.Noting.{Noted}
 use Rattle.rules.specs.Reading.{readSample, salvagedSample}
 use Rattle.rules.proofs.Systems.{sequences-le, half-cases, half-twice}
 use Rattle.rules.proofs.Places.{place-in-below}
 use Rattle.rules.proofs.Blocks.{block-in-sequence, sequence-length}
-use Rattle.rules.proofs.Sound.{half-le, audio-below, row-sequence, sequence-below}
-use Rattle.rules.proofs.Halves.{half-start, rows-le}
-use Rattle.noting.specs.Asked.{nextFaults}
-use Rattle.noting.proofs.Next.{next-inside}
-use Rattle.words.specs.Taken.{heldWord, heldBlock, heldPart, Between, blocksTaken}
-use Rattle.words.proofs.Between.{between-none, between-next, between-same, between-all}
-use Rattle.words.proofs.Ways.{nine-taken}
-use Rattle.rescue.specs.Taken.{heldSample, samplesFit, samplesLeft, rowSequence, rowFaults, halfFaults}
-use Rattle.rescue.specs.Asked.{RowAsked, HalfAsked, HalfSalvaged}
+use Rattle.rules.proofs.Sound.{half-le, audio-below, rank-sequence, sequence-below}
+use Rattle.rules.proofs.Halves.{half-start, rank-le}
+use Rattle.fault_list.specs.Asked.{nextFaults}
+use Rattle.fault_list.proofs.Next.{next-inside}
+use Rattle.sequence_samples.specs.Taken.{heldWord, heldBlock, heldPart, Between, blocksTaken}
+use Rattle.sequence_samples.proofs.Between.{between-none, between-next, between-same, between-all}
+use Rattle.sequence_samples.proofs.Ways.{nine-taken}
+use Rattle.rescue.specs.Taken.{heldSample, samplesFit, samplesLeft, rankSequence, rankFaults, halfFaults}
+use Rattle.rescue.specs.Asked.{RankAsked, HalfAsked, HalfSalvaged}
 
 -- ---- a sequence's sample is the frame's
 
@@ -43,78 +43,78 @@ held-sample y frame c t =
     ap (λ (b : List ℕ). heldWord (names b (difOf c) (sequenceOf s c t) (soundPlace s t)) b (byteOf s t))
     (block-in-sequence y frame (difOf c) (sequenceOf s c t) (soundPlace s t) (place-in-below Audio (audioOf s t) (audio-below s (half-cases y) t)))
 
--- ---- row_part and row_sequence: m is what `half` answers
+-- ---- rank_part and rank_sequence: m is what `half` answers
 
 module _ (y : System) (i r m : ℕ) (em : m ≡ halfOf y) where
-  pub q-is : m * (i % 2) + r ≡ rowSequence y i r
+  pub q-is : m * (i % 2) + r ≡ rankSequence y i r
   q-is =
       let e : i % 2 ≡ halfAt (i + 1) = omega arith in
       ap₂ (λ (a b : ℕ). a * b + r) em e
 
-  q-below : r < halfOf y → rowSequence y i r < sequencesOf y
+  q-below : r < halfOf y → rankSequence y i r < sequencesOf y
   q-below l = omega (arith, sequence-below (halfOf y) (i + 1) r (half-cases y) l, half-twice y)
 
   pub q-small : r < halfOf y → m * (i % 2) + r ≤ 12
   q-small l = omega (arith, q-is, q-below l, sequences-le y)
 
-  start-is : m * i + r ≡ sequencesOf y * difOf (i + 1) + rowSequence y i r
+  start-is : m * i + r ≡ sequencesOf y * difOf (i + 1) + rankSequence y i r
   start-is = omega (arith, ap (λ (a : ℕ). a * i) em, half-start y i)
 
-  module _ (frame : List ℕ) (asked : RowAsked frame y i r) where
-    before-row : m * i ≤ m * 7
-    before-row = mul-le-mul-left m (omega (arith, asked .channel))
+  module _ (frame : List ℕ) (asked : RankAsked frame y i r) where
+    before-rank : m * i ≤ m * 7
+    before-rank = mul-le-mul-left m (omega (arith, asked .channel))
 
-    pub row-fits : (m * i + r) * 12000 + 12000 ≤ length frame
-    row-fits = omega (arith, em, asked .whole, asked .row, half-twice y, before-row)
+    pub rank-fits : (m * i + r) * 12000 + 12000 ≤ length frame
+    rank-fits = omega (arith, em, asked .whole, asked .rank, half-twice y, before-rank)
 
-    pub row-small : m * i + r ≤ 48
-    row-small = omega (arith, em, before-row, asked .row, half-le (halfOf y) (half-cases y))
+    pub rank-small : m * i + r ≤ 48
+    rank-small = omega (arith, em, before-rank, asked .rank, half-le (halfOf y) (half-cases y))
 
-    pub row-cut : take ((m * i + r) * 12000 + 12000 - (m * i + r) * 12000) (drop ((m * i + r) * 12000) frame) ≡ sequenceAt y frame (difOf (i + 1)) (rowSequence y i r)
+    pub rank-cut : take ((m * i + r) * 12000 + 12000 - (m * i + r) * 12000) (drop ((m * i + r) * 12000) frame) ≡ sequenceAt y frame (difOf (i + 1)) (rankSequence y i r)
     unfolding sequenceAt
-    row-cut = range-part ((m * i + r) * 12000) 12000 frame ∙ ap (λ (a : ℕ). take 12000 (drop (a * 12000) frame)) start-is
+    rank-cut = range-part ((m * i + r) * 12000) 12000 frame ∙ ap (λ (a : ℕ). take 12000 (drop (a * 12000) frame)) start-is
 
--- ---- take_row and survey_row
+-- ---- take_rank and survey_rank
 
-module _ (frame : List ℕ) (y : System) (i r : ℕ) (asked : RowAsked frame y i r) (part : List ℕ) (ep : part ≡ sequenceAt y frame (difOf (i + 1)) (rowSequence y i r)) where
+module _ (frame : List ℕ) (y : System) (i r : ℕ) (asked : RankAsked frame y i r) (part : List ℕ) (ep : part ≡ sequenceAt y frame (difOf (i + 1)) (rankSequence y i r)) where
   h-is : i / 2 ≡ difOf (i + 1)
   h-is = omega arith
 
   h-below : difOf (i + 1) < 4
   h-below = omega (arith, asked .channel)
 
-  row-long : length (sequenceAt y frame (difOf (i + 1)) (rowSequence y i r)) ≡ 12000
-  row-long = sequence-length y frame (difOf (i + 1)) (rowSequence y i r) (asked .whole) h-below (q-below y i r (halfOf y) refl (asked .row))
+  rank-long : length (sequenceAt y frame (difOf (i + 1)) (rankSequence y i r)) ≡ 12000
+  rank-long = sequence-length y frame (difOf (i + 1)) (rankSequence y i r) (asked .whole) h-below (q-below y i r (halfOf y) refl (asked .rank))
 
-  module _ (q : ℕ) (eq : q ≡ rowSequence y i r) where
-    pub row-taken : (before now : List ℤ) → length before ≤ positionsOf y
-        → Between (halfOf y) (9 * rowAt (halfOf y) q) (9 * rowAt (halfOf y) q + blocksTaken y (length part) (length before)) (heldPart (halfOf y) part (i / 2) q) before now
+  module _ (q : ℕ) (eq : q ≡ rankSequence y i r) where
+    pub rank-taken : (before now : List ℤ) → length before ≤ positionsOf y
+        → Between (halfOf y) (9 * rankAt (halfOf y) q) (9 * rankAt (halfOf y) q + blocksTaken y (length part) (length before)) (heldPart (halfOf y) part (i / 2) q) before now
         → Between (halfOf y) (9 * r) (9 * r + 9) (heldSample y frame (i + 1)) before now
-    row-taken before now room b =
-        let p = rw (nine-taken y (length part) (length before) (ap length ep ∙ row-long) room) at b in
+    rank-taken before now room b =
+        let p = rw (nine-taken y (length part) (length before) (ap length ep ∙ rank-long) room) at b in
         let s = halfOf y in
-        let er : rowAt s (rowSequence y i r) ≡ r = row-sequence s (i + 1) r (half-cases y) (asked .row) in
-        let p′ : Between s (9 * r) (9 * r + 9) (heldPart s (sequenceAt y frame (difOf (i + 1)) (rowSequence y i r)) (difOf (i + 1)) (rowSequence y i r)) before now =
+        let er : rankAt s (rankSequence y i r) ≡ r = rank-sequence s (i + 1) r (half-cases y) (asked .rank) in
+        let p′ : Between s (9 * r) (9 * r + 9) (heldPart s (sequenceAt y frame (difOf (i + 1)) (rankSequence y i r)) (difOf (i + 1)) (rankSequence y i r)) before now =
         rw er at (rw (ep, h-is, eq) at p) in
         between-same s (9 * r) (9 * r + 9) _ _ before now (λ t lo hi.
-        let e : rowOf s t ≡ r = omega (arith, audio-below s (half-cases y) t) in
-        ap (λ (j : ℕ). heldPart s (sequenceAt y frame (difOf (i + 1)) (rowSequence y i j)) (difOf (i + 1)) (rowSequence y i j) t) (sym e)
+        let e : rankOf s t ≡ r = omega (arith, audio-below s (half-cases y) t) in
+        ap (λ (j : ℕ). heldPart s (sequenceAt y frame (difOf (i + 1)) (rankSequence y i j)) (difOf (i + 1)) (rankSequence y i j) t) (sym e)
         ∙ held-sample y frame (i + 1) t) p′
 
-    pub row-noted : (list list′ : List ℕ) (t total : ℕ) → t ≤ 7200 → Noted list t (nextFaults y (i / 2) q part t) list′ total → Noted list t (rowFaults y frame i r) list′ total
-    row-noted list list′ t total l n =
+    pub rank-noted : (list list′ : List ℕ) (t total : ℕ) → t ≤ 7200 → Noted list t (nextFaults y (i / 2) q part t) list′ total → Noted list t (rankFaults y frame i r) list′ total
+    rank-noted list list′ t total l n =
         let h = difOf (i + 1) in
-        let inside = next-inside y h (rowSequence y i r) (sequenceAt y frame h (rowSequence y i r)) t h-below (q-below y i r (halfOf y) refl (asked .row)) row-long (omega arith) in
+        let inside = next-inside y h (rankSequence y i r) (sequenceAt y frame h (rankSequence y i r)) t h-below (q-below y i r (halfOf y) refl (asked .rank)) rank-long (omega arith) in
         rw inside at (rw (ep, h-is, eq) at n)
 
 -- ---- take_half and salvage_half
 
 module _ (frame : List ℕ) (y : System) (i t r m : ℕ) (asked : HalfAsked frame y i t) (em : m ≡ halfOf y) (l : r < m) where
-  pub row-asked : RowAsked frame y i r
-  row-asked = record { whole = asked .whole; channel = asked .channel; row = omega (arith, em) }
+  pub rank-asked : RankAsked frame y i r
+  rank-asked = record { whole = asked .whole; channel = asked .channel; rank = omega (arith, em) }
 
-  pub row-few : (list list′ : List ℕ) (total : ℕ) → Noted list t (run (rowFaults y frame i) r) list′ total → total ≤ 7200
-  row-few list list′ total n = omega (arith, n .total, asked .few, rows-le y frame i r, em, half-le (halfOf y) (half-cases y))
+  pub rank-few : (list list′ : List ℕ) (total : ℕ) → Noted list t (run (rankFaults y frame i) r) list′ total → total ≤ 7200
+  rank-few list list′ total n = omega (arith, n .total, asked .few, rank-le y frame i r, em, half-le (halfOf y) (half-cases y))
 
 module _ (s : ℕ) (f : ℕ → ℤ) where
   pub half-none : (l : List ℤ) → Between s 0 (9 * 0) f l l
@@ -133,7 +133,7 @@ module _ (frame : List ℕ) (y : System) (i r m : ℕ) (em : m ≡ halfOf y) (le
   pub half-taken : Between (halfOf y) 0 (9 * halfOf y) (heldSample y frame (i + 1)) before now
   half-taken = rw r-is at p
 
-  pub half-salvaged : (t : ℕ) (list list′ : List ℕ) (total : ℕ) → Noted list t (run (rowFaults y frame i) r) list′ total → HalfSalvaged y frame i t before now list list′ total
+  pub half-salvaged : (t : ℕ) (list list′ : List ℕ) (total : ℕ) → Noted list t (run (rankFaults y frame i) r) list′ total → HalfSalvaged y frame i t before now list list′ total
   unfolding halfFaults
   half-salvaged t list list′ total n = record { sound = half-taken; noted = rw r-is at n }
 

@@ -29,8 +29,8 @@ use Rattle.rules.proofs.Systems.{half-cases, positions-le}
 use Rattle.rules.proofs.Records.{noted-turn}
 use Rattle.rules.proofs.Halves.{faults-halves, halves-le}
 use Rattle.rules.proofs.Calls.{survey-done, survey-stopped}
-use Rattle.noting.specs.Asked.{tallied}
-use Rattle.words.proofs.Between.{between-all}
+use Rattle.fault_list.specs.Asked.{tallied}
+use Rattle.sequence_samples.proofs.Between.{between-all}
 use Rattle.rescue.specs.Taken.{heldSample, halfSamples, halfFaults}
 use Rattle.rescue.specs.Asked.{HalfAsked, HalfSalvaged, FrameAsked, FrameSalvaged}
 

@@ -9,14 +9,14 @@ use Rattle.rules.specs.Systems.{sequencesOf, halfOf, positionsOf}
 use Rattle.rules.specs.Faults.{frameFaults}
 use Rattle.rules.specs.Noting.{Noted}
 use Rattle.rules.specs.Salvage.{salvaged}
-use Rattle.words.specs.Taken.{Between}
+use Rattle.sequence_samples.specs.Taken.{Between}
 use Rattle.rescue.specs.Taken.{heldSample, halfFaults}
 
--- row r of audio channel i + 1
-pub record RowAsked (frame : List ℕ) (y : System) (i r : ℕ) : Type 0 where
+-- the sequence of rank r of audio channel i + 1
+pub record RankAsked (frame : List ℕ) (y : System) (i r : ℕ) : Type 0 where
   pub whole : length frame ≡ 48000 * sequencesOf y
   pub channel : i < 8
-  pub row : r < halfOf y
+  pub rank : r < halfOf y
 
 -- audio channel i + 1, where t faults came before
 pub record HalfAsked (frame : List ℕ) (y : System) (i t : ℕ) : Type 0 where

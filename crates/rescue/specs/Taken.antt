@@ -36,12 +36,12 @@ samplesLeft y frame c samples = pick (samplesFit y (length frame) c (length samp
 unfoldable pub halfSamples : System → List ℕ → ℕ → List ℤ
 halfSamples y frame i = salvagedChannel y frame (i + 1)
 
--- the sequence of its row r, and the faults there
-abbrev pub rowSequence : System → ℕ → ℕ → ℕ
-rowSequence y i r = halfOf y * halfAt (i + 1) + r
+-- its sequence of rank r, and the faults there
+abbrev pub rankSequence : System → ℕ → ℕ → ℕ
+rankSequence y i r = halfOf y * halfAt (i + 1) + r
 
-abbrev pub rowFaults : System → List ℕ → ℕ → ℕ → List Fault
-rowFaults y frame i r = partFaults y frame (difOf (i + 1)) (rowSequence y i r)
+abbrev pub rankFaults : System → List ℕ → ℕ → ℕ → List Fault
+rankFaults y frame i r = partFaults y frame (difOf (i + 1)) (rankSequence y i r)
 
 unfoldable pub halfFaults : System → List ℕ → ℕ → List Fault
-halfFaults y frame i = run (rowFaults y frame i) (halfOf y)
+halfFaults y frame i = run (rankFaults y frame i) (halfOf y)

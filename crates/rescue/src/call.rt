@@ -2,7 +2,7 @@
 ghost use lib.ListN.{length};
 ghost use Rattle.rules.specs.Salvage.{Salvaged};
 ghost use Rattle.rescue.specs.Asked.{FrameAsked, FrameSalvaged};
-use crate::rows;
+use crate::half;
 use rules::Survey;
 use rules::System;
 use rules::SystemNumber;
@@ -18,7 +18,7 @@ fn salvage_all(frame: &[u8], y: System, samples: &mut [i32], list: &mut [u32]) -
     while i < 8 {
         let at = (i as usize) * size;
         let to = at + size;
-        total = rows::salvage_half(frame, y, i, &mut samples[at..to], list, total);
+        total = half::salvage_half(frame, y, i, &mut samples[at..to], list, total);
         i += 1;
     }
     total
@@ -29,17 +29,17 @@ pub fn salvage(system: u32, frame: &[u8], samples: &mut [i32], list: &mut [u32])
     ensures { λ r. ⌜ Salvaged system (now (frame .entry)) (now (samples .entry)) (now (list .entry)) r (now (samples .exit)) (now (list .exit)) ⌝ }
 {
     let SystemNumber::Known(y) = layout::system_of(system) else {
-        return noting::refused(1);
+        return fault_list::refused(1);
     };
     let whole = frame.len() == layout::frame_bytes(y);
     let room = samples.len() == 8 * (layout::positions(y) as usize);
     if !whole {
-        return noting::refused(2);
+        return fault_list::refused(2);
     }
     if !room {
-        return noting::refused(4);
+        return fault_list::refused(4);
     }
     let size = list.len();
     let total = salvage_all(frame, y, samples, list);
-    noting::answered(total, size)
+    fault_list::answered(total, size)
 }

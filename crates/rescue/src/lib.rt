@@ -1,6 +1,6 @@
 // Salvage: every position of every audio channel, beside the fault list.
 mod call;
-mod rows;
+mod half;
 
 pub use call::salvage;
-pub use rows::samples_of;
+pub use half::samples_of;

@@ -27,7 +27,7 @@ use Rattle.rules.specs.Samples.{numberOf}
 use Rattle.rules.specs.Sound.{difOf}
 use Rattle.rules.specs.Check.{everySequence, unflagged, checkRows}
 use Rattle.rules.specs.Reading.{readSample}
-use Rattle.rules.specs.Audio.{firstOfHalf, everyRow, asIn, asKeeps, countIs, countFor, isAudio, audioRows, audioNumber, audioAnswer, heard, audioLeft, AudioRead}
+use Rattle.rules.specs.Audio.{firstOfHalf, everyInHalf, asIn, asKeeps, countIs, countFor, isAudio, audioRows, audioNumber, audioAnswer, heard, audioLeft, AudioRead}
 use Rattle.rules.proofs.Systems.{half-cases, count-below}
 use Rattle.rules.proofs.Sound.{half-some}
 use Rattle.rules.proofs.Aaux.{as-means}
@@ -41,22 +41,22 @@ module _ (y : System) (frame : List ℕ) (c : ℕ) where
   audio-23 e = rw e refl
 
   module _ (unmarked : everySequence y frame (unflagged 1) ≡ true) where
-    pub audio-24 : everyRow y frame c (asKeeps y c) ≡ false → 24 ≡ firstOf (audioRows y frame c)
+    pub audio-24 : everyInHalf y frame c (asKeeps y c) ≡ false → 24 ≡ firstOf (audioRows y frame c)
     unfolding audioRows firstOf pick
     audio-24 e = rw (unmarked, e) refl
 
-    module _ (kept : everyRow y frame c (asKeeps y c) ≡ true) where
-      pub audio-25 : everyRow y frame c (countIs (countFor y frame c)) ≡ false → 25 ≡ firstOf (audioRows y frame c)
+    module _ (kept : everyInHalf y frame c (asKeeps y c) ≡ true) where
+      pub audio-25 : everyInHalf y frame c (countIs (countFor y frame c)) ≡ false → 25 ≡ firstOf (audioRows y frame c)
       unfolding audioRows firstOf pick
       audio-25 e = rw (unmarked, kept, e) refl
 
-      pub audio-0 : everyRow y frame c (countIs (countFor y frame c)) ≡ true → 0 ≡ firstOf (audioRows y frame c)
+      pub audio-0 : everyInHalf y frame c (countIs (countFor y frame c)) ≡ true → 0 ≡ firstOf (audioRows y frame c)
       unfolding audioRows firstOf pick
       audio-0 e = rw (unmarked, kept, e) refl
 
   -- 0 says that no row holds
   pub audio-mean : firstOf (audioRows y frame c) ≡ 0
-      → (everySequence y frame (unflagged 1) ≡ true) × (everyRow y frame c (asKeeps y c) ≡ true) × (everyRow y frame c (countIs (countFor y frame c)) ≡ true)
+      → (everySequence y frame (unflagged 1) ≡ true) × (everyInHalf y frame c (asKeeps y c) ≡ true) × (everyInHalf y frame c (countIs (countFor y frame c)) ≡ true)
   unfolding audioRows
   audio-mean z =
       let a = first-zero _ _ _ z in
@@ -65,7 +65,7 @@ module _ (y : System) (frame : List ℕ) (c : ℕ) where
       (not-false _ (a .0), not-false _ (b .0), not-false _ (d .0))
 
   -- and then the count that is answered is one of the system's own, below its positions
-  pub count-own : everyRow y frame c (asKeeps y c) ≡ true → isCount y (countFor y frame c) ≡ true
+  pub count-own : everyInHalf y frame c (asKeeps y c) ≡ true → isCount y (countFor y frame c) ≡ true
   unfolding countFor
   count-own e =
       let first = from-means y frame (asKeeps y c) _ _ _ e 0 (half-some _ (half-cases y)) in
@@ -73,14 +73,14 @@ module _ (y : System) (frame : List ℕ) (c : ℕ) where
 
   -- not 24, not 25: every AS of the channel keeps the rules, and says the count that is answered
   module _ (r : ℕ) (hr : r < halfOf y) where
-    pub as-row : everyRow y frame c (asKeeps y c) ≡ true → As y c (asIn (firstOfHalf y c + r) (sequenceAt y frame (difOf c) (firstOfHalf y c + r)))
-    as-row e =
+    pub half-as : everyInHalf y frame c (asKeeps y c) ≡ true → As y c (asIn (firstOfHalf y c + r) (sequenceAt y frame (difOf c) (firstOfHalf y c + r)))
+    half-as e =
         as-means y c (asIn (firstOfHalf y c + r) (sequenceAt y frame (difOf c) (firstOfHalf y c + r)))
         (from-means y frame (asKeeps y c) (difOf c) (firstOfHalf y c) (halfOf y) e r hr)
 
-    pub count-row : everyRow y frame c (countIs (countFor y frame c)) ≡ true
+    pub half-count : everyInHalf y frame c (countIs (countFor y frame c)) ≡ true
         → countIn (asIn (firstOfHalf y c + r) (sequenceAt y frame (difOf c) (firstOfHalf y c + r))) ≡ countFor y frame c
-    count-row e = eqb-true _ _ (from-means y frame (countIs (countFor y frame c)) (difOf c) (firstOfHalf y c) (halfOf y) e r hr)
+    half-count e = eqb-true _ _ (from-means y frame (countIs (countFor y frame c)) (difOf c) (firstOfHalf y c) (halfOf y) e r hr)
 
 -- ---- audioNumber
 

@@ -32,7 +32,7 @@ use Rattle.rules.specs.Reading.{readSample, salvagedSample}
 use Rattle.rules.specs.Audio.{firstOfHalf, asIn, asKeeps, countIs, countFor, audioRows}
 use Rattle.rules.specs.Macroblock.{pictureRows, slotBytes}
 use Rattle.rules.specs.Time.{ssybIn, timeFirst, groupFirst, settled, packAgrees, subcodeAgrees, timeRows}
-use Rattle.rules.specs.Written.{Lent, storedWord, writtenFrame}
+use Rattle.rules.specs.Written.{Contents, storedWord, writtenFrame}
 use Rattle.rules.proofs.Systems.{half-cases, sequences-some}
 use Rattle.rules.proofs.Packs.{taken-means, taken-ok, group-when}
 use Rattle.rules.proofs.Subcode.{first-when}
@@ -47,7 +47,7 @@ use Rattle.rules.proofs.Macroblock.{picture-0}
 use Rattle.rules.proofs.Time.{settled-set, same-when, subcode-when, time-0}
 use Rattle.rules.proofs.Written.{frame-length, frame-faultless, sound-names, frame-word, frame-macroblock, frame-dsf, frame-flags, frame-subcode, frame-vs, frame-as}
 
-module _ (y : System) (l : Lent) where
+module _ (y : System) (l : Contents) where
   f : List ℕ
   f = writtenFrame y l
 

@@ -34,8 +34,8 @@ holds-one {y} {k} {h} {q} {p} {i} {h′} {q′} {p′} {i′} a b =
     let bytes = digit-one 80 ((n * h + q) * 150 + p) ((n * h′ + q′) * 150 + p′) i i′ (a .offset) (b .offset) (sym (a .is) ∙ b .is) in
     let blocks = digit-one 150 (n * h + q) (n * h′ + q′) p p′ (a .place) (b .place) (bytes .0) in
     let swap : h * n + q ≡ h′ * n + q′ = omega (arith, mul-comm n h, mul-comm n h′, blocks .0) in
-    let rows = digit-one n h h′ q q′ (a .sequence) (b .sequence) swap in
-    (rows .0, rows .1, blocks .1, bytes .1)
+    let parts = digit-one n h h′ q q′ (a .sequence) (b .sequence) swap in
+    (parts .0, parts .1, blocks .1, bytes .1)
 
 -- every byte is in one
 pub holds-some : (y : System) (k : ℕ) → k < 48000 * sequencesOf y
@@ -43,9 +43,9 @@ pub holds-some : (y : System) (k : ℕ) → k < 48000 * sequencesOf y
 holds-some y k l =
     let n = sequencesOf y in
     let some : 0 < n = sequences-some y in
-    let row : k / 80 / 150 < 4 * n = omega arith in
+    let block : k / 80 / 150 < 4 * n = omega arith in
     record {
-      channel = div-lt-iff-lt-mul some .1 row;
+      channel = div-lt-iff-lt-mul some .1 block;
       sequence = mod-lt (k / 80 / 150) some;
       place = omega arith;
       offset = omega arith;

@@ -23,7 +23,7 @@ use Rattle.rules.specs.Survey.{FrameSurveyed, SequenceSurveyed}
 use Rattle.rules.specs.View.{ViewNumbered, Viewed, ViewLies}
 use Rattle.rules.specs.Macroblock.{MacroblockLies}
 use Rattle.rules.specs.Salvage.{Salvaged}
-use Rattle.rules.specs.Written.{Lent}
+use Rattle.rules.specs.Written.{Contents}
 use Rattle.rules.specs.Write.{Wrote}
 use Rattle.rules.specs.Rows.{rowsAgree, printedRows}
 use Rattle.rules.specs.Known.{all, table}
@@ -105,7 +105,7 @@ pub demand-2-reads-decide : {k : ℕ} {f : List ℕ} {c : ℕ} {samples : List �
 demand-2-reads-decide = reads-decided
 
 -- f is a frame that our writer made of l
-module _ {k : ℕ} {l : Lent} {frame f : List ℕ} (wrote : Wrote k l frame 0 f) where
+module _ {k : ℕ} {l : Contents} {frame f : List ℕ} (wrote : Wrote k l frame 0 f) where
   pub demand-2 : WritesBack k l f
   demand-2 = writes-back wrote
 

@@ -14,7 +14,7 @@ use Rattle.base.specs.Pick.{pick}
 use Rattle.base.specs.Run.{run}
 use Rattle.base.proofs.Cases.{by-bool}
 use Rattle.base.proofs.Picks.{first-zero, pick-either}
-use Rattle.base.proofs.Runs.{run-length-le, run-same, run-rows}
+use Rattle.base.proofs.Runs.{run-length-le, run-same, run-runs}
 use Rattle.rules.specs.declared.System.{System}
 use Rattle.rules.specs.declared.BlockNumber.{BlockNumber}
 use Rattle.rules.specs.declared.Entry.{Entry}
@@ -145,8 +145,8 @@ faults-stream y frame =
     run-same _ _ (150 * (n * 4)) (λ j l.
     let e : j * 80 ≡ startOf y (j / 150 / n) (j / 150 % n) (j % 150) = omega (arith, div-add-mod (j / 150) n) in
     rw e refl)
-    ∙ run-rows (λ (r p : ℕ). blockFaults (blockAt y frame (r / n) (r % n) p) (r / n) (r % n) p) 150 (n * 4) (omega arith)
-    ∙ run-rows (λ (h q : ℕ). run (λ (p : ℕ). blockFaults (blockAt y frame h q p) h q p) 150) n 4 (sequences-some y))
+    ∙ run-runs (λ (r p : ℕ). blockFaults (blockAt y frame (r / n) (r % n) p) (r / n) (r % n) p) 150 (n * 4) (omega arith)
+    ∙ run-runs (λ (h q : ℕ). run (λ (p : ℕ). blockFaults (blockAt y frame h q p) h q p) 150) n 4 (sequences-some y))
 
 unnamed-length : (y : System) (frame : List ℕ) (m : ℕ) → length (unnamed y frame m) ≡ failing (named y frame) m
 unfolding unnamed failing run pick

@@ -29,7 +29,7 @@ use Rattle.rules.specs.Aaux.{asAt, sizeOf, countOf, aauxPack}
 use Rattle.rules.specs.Sound.{audioAt}
 use Rattle.rules.specs.Picture.{slot}
 use Rattle.rules.specs.Time.{fourBytes}
-use Rattle.rules.specs.Written.{Lent, storedWord, audioBytes, payload, entryBlock, writtenBlock, writtenFrame}
+use Rattle.rules.specs.Written.{Contents, storedWord, audioBytes, payload, entryBlock, writtenBlock, writtenFrame}
 use Rattle.rules.specs.Write.{Takes}
 use Rattle.rules.specs.Paper.{sequences, byteAt, bytesAt, soundStart, soundWord, wordBy, asPack, countBy, countSaid}
 use Rattle.rules.specs.Refusals.{OwnCount}
@@ -65,7 +65,7 @@ run-cut b a w k g rest s e j h =
 
 -- ---- HasForm
 
-module _ (k : ℕ) (y : System) (known : systemOf k ≡ Known y) (l : Lent) where
+module _ (k : ℕ) (y : System) (known : systemOf k ≡ Known y) (l : Contents) where
   w : List ℕ
   w = writtenFrame y l
 
@@ -232,7 +232,7 @@ module _ (k : ℕ) (y : System) (known : systemOf k ≡ Known y) (l : Lent) wher
 
 -- ---- LaidOut
 
-module _ (k : ℕ) (y : System) (known : systemOf k ≡ Known y) (l : Lent) (size : ℕ) (takes : Takes y l size) where
+module _ (k : ℕ) (y : System) (known : systemOf k ≡ Known y) (l : Contents) (size : ℕ) (takes : Takes y l size) where
   -- the word of a sample that was given
   word-given : (c t : ℕ) → 0 < c → c < 9 → t < l .count → storedWord l c t ≡ wordBy (given l c t)
   word-given c t c1 c8 ht = stored-word l c t c1 c8 (takes .sounds) (takes .levels) ht ∙ word-is (given l c t) (given-in l c t c1 c8 (takes .sounds) (takes .levels) ht)

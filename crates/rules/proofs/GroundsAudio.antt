@@ -17,9 +17,9 @@ use Rattle.rules.specs.Systems.{halfOf, countsOf, isCount, rateOf, syste
 use Rattle.rules.specs.Blocks.{sequenceAt, blockIn}
 use Rattle.rules.specs.Aaux.{asAt, countOf, countIn, As}
 use Rattle.rules.specs.Sound.{difOf}
-use Rattle.rules.specs.Audio.{firstOfHalf, everyRow, asIn, asKeeps, countIs, countFor}
+use Rattle.rules.specs.Audio.{firstOfHalf, everyInHalf, asIn, asKeeps, countIs, countFor}
 use Rattle.rules.specs.Paper.{sequences, rate, soundChannel, soundFirst, asPack, countBy, countSaid}
-use Rattle.rules.specs.Refusals.{Table, _if_, _else_, SomeRow, OwnCount, asByte, WrongAs, CountsDiffer}
+use Rattle.rules.specs.Refusals.{Table, _if_, _else_, SomeInHalf, OwnCount, asByte, WrongAs, CountsDiffer}
 use Rattle.rules.specs.Refusals.WrongAs.{wrongHeader, wrongLf, wrongSize, wrongChn, wrongMode, wrongRate, wrongStype, wrongSmpQu}
 use Rattle.rules.proofs.Paper.{Columns, columns}
 use Rattle.rules.proofs.Systems.{half-cases, count-cases}
@@ -55,19 +55,19 @@ module _ (k : ℕ) (y : System) (known : systemOf k ≡ Known y) (f : List ℕ) 
 
   -- ---- a condition on the sequences of the channel's half
 
-  row-every : (number : ℕ) (Is : ℕ → ℕ → Type 0) (test : ℕ → List ℕ → Bool) (table : Table) (rows : List Refusal)
+  half-every : (number : ℕ) (Is : ℕ → ℕ → Type 0) (test : ℕ → List ℕ → Bool) (table : Table) (rows : List Refusal)
       → ((q : ℕ) → test q (sequenceAt y f (difOf c) q) ≡ false → Is (difOf c) q)
       → ((q : ℕ) → test q (sequenceAt y f (difOf c) q) ≡ true → Is (difOf c) q → ⊥)
-      → (everyRow y f c test ≡ true → Exactly table (firstOf rows))
-      → Exactly (number if SomeRow (sequences k) c Is else table) (firstOf (number when not (everyRow y f c test) ∷ rows))
-  row-every number Is test table rows wrong right rest =
-      row-exactly number (not (everyRow y f c test)) table rows
+      → (everyInHalf y f c test ≡ true → Exactly table (firstOf rows))
+      → Exactly (number if SomeInHalf (sequences k) c Is else table) (firstOf (number when not (everyInHalf y f c test) ∷ rows))
+  half-every number Is test table rows wrong right rest =
+      row-exactly number (not (everyInHalf y f c test)) table rows
       (λ e.
       from-some y f test (difOf c) (firstOfHalf y c) (halfOf y) (not-true _ e) (λ r l d.
-      record { r = r; row = omega (arith, half-is); is = rw first-is (wrong (firstOfHalf y c + r) d) }))
+      record { r = r; rank = omega (arith, half-is); is = rw first-is (wrong (firstOfHalf y c + r) d) }))
       (λ e s.
       right (firstOfHalf y c + s .r)
-      (from-means y f test (difOf c) (firstOfHalf y c) (halfOf y) (not-false _ e) (s .r) (omega (arith, s .row, half-is)))
+      (from-means y f test (difOf c) (firstOfHalf y c) (halfOf y) (not-false _ e) (s .r) (omega (arith, s .rank, half-is)))
       (subst (λ (x : ℕ). Is (difOf c) (x + s .r)) first-is (s .is)))
       (λ e. rest (not-false _ e))
 
@@ -141,9 +141,9 @@ module _ (k : ℕ) (y : System) (known : systemOf k ≡ Known y) (f : List ℕ) 
       broken a (wrongStype d) = d (sym (ap (λ (b : ℕ). b % 32) (as-byte q 3 (omega arith))) ∙ a .stype)
       broken a (wrongSmpQu d) = d (sym (ap (λ (b : ℕ). b % 64) (as-byte q 4 (omega arith))) ∙ a .smpQu)
 
-  pub row-24 : (table : Table) (rows : List Refusal) → (everyRow y f c (asKeeps y c) ≡ true → Exactly table (firstOf rows))
-      → Exactly (24 if SomeRow (sequences k) c (WrongAs k f c) else table) (firstOf (24 when not (everyRow y f c (asKeeps y c)) ∷ rows))
-  row-24 table rows rest = row-every 24 (WrongAs k f c) (asKeeps y c) table rows as-wrong as-right rest
+  pub row-24 : (table : Table) (rows : List Refusal) → (everyInHalf y f c (asKeeps y c) ≡ true → Exactly table (firstOf rows))
+      → Exactly (24 if SomeInHalf (sequences k) c (WrongAs k f c) else table) (firstOf (24 when not (everyInHalf y f c (asKeeps y c)) ∷ rows))
+  row-24 table rows rest = half-every 24 (WrongAs k f c) (asKeeps y c) table rows as-wrong as-right rest
 
   -- ---- 25
 
@@ -151,25 +151,25 @@ module _ (k : ℕ) (y : System) (known : systemOf k ≡ Known y) (f : List ℕ) 
   unfolding countFor
   count-first = sym (count-is (firstOfHalf y c)) ∙ ap (λ (q : ℕ). countSaid (sequences k) f (difOf c) q) (sym first-is)
 
-  pub row-25 : (table : Table) (rows : List Refusal) → (everyRow y f c (countIs (countFor y f c)) ≡ true → Exactly table (firstOf rows))
-      → Exactly (25 if CountsDiffer (sequences k) f c else table) (firstOf (25 when not (everyRow y f c (countIs (countFor y f c))) ∷ rows))
+  pub row-25 : (table : Table) (rows : List Refusal) → (everyInHalf y f c (countIs (countFor y f c)) ≡ true → Exactly table (firstOf rows))
+      → Exactly (25 if CountsDiffer (sequences k) f c else table) (firstOf (25 when not (everyInHalf y f c (countIs (countFor y f c))) ∷ rows))
   row-25 table rows rest =
-      row-exactly 25 (not (everyRow y f c (countIs (countFor y f c)))) table rows
+      row-exactly 25 (not (everyInHalf y f c (countIs (countFor y f c)))) table rows
       (λ e.
       from-some y f (countIs (countFor y f c)) (difOf c) (firstOfHalf y c) (halfOf y) (not-true _ e) (λ r l d. record {
         r = r;
         r′ = 0;
-        row = omega (arith, half-is);
-        row′ = omega (arith, half-is, half-some (halfOf y) (half-cases y));
+        rank = omega (arith, half-is);
+        rank′ = omega (arith, half-is, half-some (halfOf y) (half-cases y));
         differ = λ z. eqb-false _ _ d (sym (said r) ∙ z ∙ ap (λ (q : ℕ). countSaid (sequences k) f (difOf c) q) (add-zero (soundFirst (sequences k) c)) ∙ sym count-first);
       }))
-      (λ e d. d .differ (same e (d .r) (d .row) ∙ sym (same e (d .r′) (d .row′))))
+      (λ e d. d .differ (same e (d .r) (d .rank) ∙ sym (same e (d .r′) (d .rank′))))
       (λ e. rest (not-false _ e))
     where
       said : (r : ℕ) → countSaid (sequences k) f (difOf c) (soundFirst (sequences k) c + r) ≡ countIn (source (firstOfHalf y c + r))
       said r = rw first-is (count-is (firstOfHalf y c + r))
 
-      same : not (everyRow y f c (countIs (countFor y f c))) ≡ false → (r : ℕ) → r < sequences k / 2
+      same : not (everyInHalf y f c (countIs (countFor y f c))) ≡ false → (r : ℕ) → r < sequences k / 2
           → countSaid (sequences k) f (difOf c) (soundFirst (sequences k) c + r) ≡ countFor y f c
       same e r l =
           said r

@@ -7,7 +7,7 @@ use native.Mathlib.Nat.{mul-add}
 use native.Mathlib.Omega.{arith}
 use lib.ListN.{length}
 use Rattle.base.specs.Run.{run}
-use Rattle.base.proofs.Runs.{run-same, run-split, run-rows, run-length-le}
+use Rattle.base.proofs.Runs.{run-same, run-split, run-runs, run-length-le}
 use Rattle.rules.specs.declared.System.{System}
 use Rattle.rules.specs.declared.Fault.{Fault}
 use Rattle.rules.specs.Systems.{sequencesOf, halfOf}
@@ -45,19 +45,19 @@ module _ (y : System) (frame : List ℕ) where
       let n : sequencesOf y ≡ s + s = omega (arith, half-twice y) in
       let half : ℕ → ℕ → List Fault = λ h b. run (λ (r : ℕ). partFaults y frame h (s * b + r)) s in
       run-same _ (λ (h : ℕ). run (half h) 2) 4 (λ h l. ap (run (partFaults y frame h)) n ∙ sym (two-halves (partFaults y frame h) s))
-      ∙ sym (run-rows half 2 4 (omega arith))
+      ∙ sym (run-runs half 2 4 (omega arith))
       ∙ run-same _ _ 8 (λ i l.
       let e : i / 2 ≡ difOf (i + 1) = omega arith in
       let d : i % 2 ≡ halfAt (i + 1) = omega arith in
       ap₂ half e d)
 
-  -- how many there can be, of the rows below r of an audio channel and of the audio channels below i
-  pub rows-le : (i r : ℕ) → length (run (λ (r : ℕ). partFaults y frame (difOf (i + 1)) (halfOf y * halfAt (i + 1) + r)) r) ≤ 150 * r
-  rows-le i r =
+  -- how many there can be, of the sequences below rank r of an audio channel and of the audio channels below i
+  pub rank-le : (i r : ℕ) → length (run (λ (r : ℕ). partFaults y frame (difOf (i + 1)) (halfOf y * halfAt (i + 1) + r)) r) ≤ 150 * r
+  rank-le i r =
       let q : ℕ → ℕ = λ j. halfOf y * halfAt (i + 1) + j in
       omega (arith, run-length-le (λ (j : ℕ). partFaults y frame (difOf (i + 1)) (q j)) 150 r (λ j. sequence-faults-le (sequenceAt y frame (difOf (i + 1)) (q j)) (difOf (i + 1)) (q j)))
 
   pub halves-le : (i : ℕ) → length (run (λ (i : ℕ). run (λ (r : ℕ). partFaults y frame (difOf (i + 1)) (halfOf y * halfAt (i + 1) + r)) (halfOf y)) i) ≤ 900 * i
   halves-le i =
       let f : ℕ → List Fault = λ j. run (λ (r : ℕ). partFaults y frame (difOf (j + 1)) (halfOf y * halfAt (j + 1) + r)) (halfOf y) in
-      omega (arith, run-length-le f 900 i (λ j. omega (arith, rows-le j (halfOf y), half-le (halfOf y) (half-cases y))))
+      omega (arith, run-length-le f 900 i (λ j. omega (arith, rank-le j (halfOf y), half-le (halfOf y) (half-cases y))))

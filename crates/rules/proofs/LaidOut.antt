@@ -20,15 +20,15 @@ use Rattle.rules.specs.declared.Carried.the-variants.{Macroblock, Nothin
 use Rattle.rules.specs.Systems.{sequencesOf, halfOf, systemOf}
 use Rattle.rules.specs.Places.{blocksOf, placeIn, place, entryAt}
 use Rattle.rules.specs.Aaux.{sizeOf}
-use Rattle.rules.specs.Sound.{halfAt, audioAt, rowAt, sampleAt}
-use Rattle.rules.specs.Written.{Lent}
+use Rattle.rules.specs.Sound.{halfAt, audioAt, rankAt, sampleAt}
+use Rattle.rules.specs.Written.{Contents}
 use Rattle.rules.specs.Paper.{sequences, positions, start, byteAt, bytesAt, soundStart, countBy, asPack, slotPlace, carried}
 use Rattle.rules.specs.Form.{cut, subcodeForm, ssybForm, aauxForm}
 use Rattle.rules.specs.Demand2.{LaidOut}
 use Rattle.rules.proofs.Systems.{half-cases, half-twice, counts-turns, positions-half}
 use Rattle.rules.proofs.Places.{entry-number-below, place-in-entry}
 use Rattle.rules.proofs.Blocks.{holds-some}
-use Rattle.rules.proofs.Sound.{half-some, row-sample, audio-sample, word-sample, sample-below, dif-audio, sequence-audio, audio-within}
+use Rattle.rules.proofs.Sound.{half-some, rank-sample, audio-sample, word-sample, sample-below, dif-audio, sequence-audio, audio-within}
 use Rattle.rules.proofs.Paper.{Columns, columns}
 
 -- ---- parts of a block
@@ -57,7 +57,7 @@ size-back x d =
 
 -- ---- two frames
 
-module _ (k : ℕ) (y : System) (known : systemOf k ≡ Known y) (l : Lent) (f g : List ℕ) (a : LaidOut k l f) (b : LaidOut k l g) where
+module _ (k : ℕ) (y : System) (known : systemOf k ≡ Known y) (l : Contents) (f g : List ℕ) (a : LaidOut k l f) (b : LaidOut k l g) where
   abbrev n : ℕ
   n = sequences k
 
@@ -122,24 +122,24 @@ module _ (k : ℕ) (y : System) (known : systemOf k ≡ Known y) (l : Lent) (f g
     c = audioAt (halfOf y) h q
 
     abbrev t : ℕ
-    t = sampleAt (halfOf y) (rowAt (halfOf y) q) j w
+    t = sampleAt (halfOf y) (rankAt (halfOf y) q) j w
 
     q-below : q < 2 * halfOf y
     q-below = omega (arith, half-twice y)
 
-    row-in : rowAt (halfOf y) q < halfOf y
-    row-in = mod-lt q (half-some (halfOf y) (half-cases y))
+    rank-in : rankAt (halfOf y) q < halfOf y
+    rank-in = mod-lt q (half-some (halfOf y) (half-cases y))
 
     t-below : t < positions k
-    t-below = omega (arith, is .positions-is, positions-half y, sample-below (halfOf y) (half-cases y) (rowAt (halfOf y) q) j row-in hj w hw)
+    t-below = omega (arith, is .positions-is, positions-half y, sample-below (halfOf y) (half-cases y) (rankAt (halfOf y) q) j rank-in hj w hw)
 
     start-is : soundStart n c t ≡ start n h q (6 + 16 * j) + (8 + 2 * w)
     unfolding halfOf
     start-is =
         let channel = dif-audio (halfOf y) h q (half-cases y) q-below in
-        let sequence = ap (λ (r : ℕ). halfOf y * halfAt c + r) (row-sample (halfOf y) (half-cases y) (rowAt (halfOf y) q) j row-in hj w) ∙ sequence-audio (halfOf y) h q (half-cases y) q-below in
-        let audio = audio-sample (halfOf y) (half-cases y) (rowAt (halfOf y) q) j row-in hj w in
-        let word = word-sample (halfOf y) (half-cases y) (rowAt (halfOf y) q) j row-in hj w in
+        let sequence = ap (λ (r : ℕ). halfOf y * halfAt c + r) (rank-sample (halfOf y) (half-cases y) (rankAt (halfOf y) q) j rank-in hj w) ∙ sequence-audio (halfOf y) h q (half-cases y) q-below in
+        let audio = audio-sample (halfOf y) (half-cases y) (rankAt (halfOf y) q) j rank-in hj w in
+        let word = word-sample (halfOf y) (half-cases y) (rankAt (halfOf y) q) j rank-in hj w in
         ap (λ (m : ℕ). soundStart m c t) (is .sequences-is)
         ∙ (λ i. ((sequencesOf y * channel i + sequence i) * 150 + (6 + 16 * audio i)) * 80 + (8 + 2 * word i))
         ∙ ap (λ (m : ℕ). start m h q (6 + 16 * j) + (8 + 2 * w)) (sym (is .sequences-is))

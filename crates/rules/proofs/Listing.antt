@@ -78,11 +78,11 @@ module _ (y : System) where
     sequence-records s whole =
         flat-run _ 150
         ∙ run-same _ _ 150 (λ j l.
-        let row : ((n * h + q) * 150 + j) / 150 ≡ n * h + q = omega arith in
+        let part : ((n * h + q) * 150 + j) / 150 ≡ n * h + q = omega arith in
         let place : ((n * h + q) * 150 + j) % 150 ≡ j = omega arith in
         let channel : (n * h + q) / n ≡ h = mul-add-div (sequences-some y) h q ∙ ap (λ (x : ℕ). h + x) (div-eq-of-lt hq) ∙ omega arith in
         let dseq : (n * h + q) % n ≡ q = mul-add-mod-self-left n h q ∙ mod-eq-of-lt hq in
-        block-record s j h q j (omega (arith, whole, l)) ∙ rw (row, place, channel, dseq) refl)
+        block-record s j h q j (omega (arith, whole, l)) ∙ rw (part, place, channel, dseq) refl)
 
 -- ---- Listed: the list of a survey that went through
 

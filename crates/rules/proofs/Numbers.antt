@@ -23,7 +23,7 @@ use Rattle.rules.specs.Places.{codeOf, sectionOf, place, places, entryAt
 use Rattle.rules.specs.Blocks.{blockAt}
 use Rattle.rules.specs.Samples.{numberOf, inRange, wordAt}
 use Rattle.rules.specs.Samples
-use Rattle.rules.specs.Sound.{difOf, rowOf, sequenceOf, soundPlace, byteOf}
+use Rattle.rules.specs.Sound.{difOf, rankOf, sequenceOf, soundPlace, byteOf}
 use Rattle.rules.specs.Picture.{slot, tenCarries, elevenCarries, carriedIn}
 use Rattle.rules.specs.Faults.{names}
 use Rattle.rules.specs.Stream.{named}
@@ -36,7 +36,7 @@ use Rattle.rules.proofs.Places.{place-for-entry, place-for-none, place-
 use Rattle.rules.proofs.Ids.{channel-pairs}
 use Rattle.rules.proofs.Blocks.{start-within}
 use Rattle.rules.proofs.Samples.{lost-word, sample-lost, sample-level, sample-none, heard-is, word-is, back-is}
-use Rattle.rules.proofs.Sound.{row-below, audio-below, word-below, sequence-below}
+use Rattle.rules.proofs.Sound.{rank-below, audio-below, word-below, sequence-below}
 use Rattle.rules.proofs.Picture.{within-there, carrier-one, carried-inside, carried-lies, carrier-past}
 use Rattle.rules.proofs.Faults.{names-place, names-none}
 use Rattle.rules.proofs.Paper.{columns, number-known, known-system, id-is, fault-is}
@@ -76,7 +76,7 @@ module _ (y : System) (g : List ℕ) (c t : ℕ) where
   index-is = refl
 
   q-below : sequenceOf (halfOf y) c t < sequencesOf y
-  q-below = omega (arith, half-twice y, sequence-below (halfOf y) c (rowOf (halfOf y) t) (half-cases y) (row-below (halfOf y) (half-cases y) t))
+  q-below = omega (arith, half-twice y, sequence-below (halfOf y) c (rankOf (halfOf y) t) (half-cases y) (rank-below (halfOf y) (half-cases y) t))
 
   p-below : soundPlace (halfOf y) t < 150
   p-below = omega (arith, audio-below (halfOf y) (half-cases y) t)
@@ -90,11 +90,11 @@ module _ (y : System) (g : List ℕ) (c t : ℕ) where
       let n = sequencesOf y in
       let h = difOf c in
       let q = sequenceOf (halfOf y) c t in
-      let row : j / 150 ≡ n * h + q = omega (arith, index-is, p-below) in
+      let part : j / 150 ≡ n * h + q = omega (arith, index-is, p-below) in
       let place : j % 150 ≡ soundPlace (halfOf y) t = omega (arith, index-is, p-below) in
       let channel : (n * h + q) / n ≡ h = mul-add-div (sequences-some y) h q ∙ ap (λ (x : ℕ). h + x) (div-eq-of-lt q-below) ∙ omega arith in
       let dseq : (n * h + q) % n ≡ q = mul-add-mod-self-left n h q ∙ mod-eq-of-lt q-below in
-      rw (row, place, channel, dseq) (ap (λ (b : List ℕ). names b h q (soundPlace (halfOf y) t)) sound-block)
+      rw (part, place, channel, dseq) (ap (λ (b : List ℕ). names b h q (soundPlace (halfOf y) t)) sound-block)
 
   -- it lies in the frame
   pub sound-within : 0 < c → c < 9 → j * 80 + 80 ≤ 48000 * sequencesOf y

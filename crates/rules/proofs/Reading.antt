@@ -9,12 +9,12 @@ use Rattle.rules.specs.declared.System.{System}
 use Rattle.rules.specs.declared.Section.the-variants.{Audio}
 use Rattle.rules.specs.declared.Sample.the-variants.{Lost}
 use Rattle.rules.specs.Systems.{sequencesOf, halfOf}
-use Rattle.rules.specs.Sound.{difOf, rowOf, sequenceOf, audioOf, soundPlace}
+use Rattle.rules.specs.Sound.{difOf, rankOf, sequenceOf, audioOf, soundPlace}
 use Rattle.rules.specs.Check.{faultIn}
 use Rattle.rules.specs.Reading.{soundNamed, readSample, salvagedSample}
 use Rattle.rules.proofs.Systems.{half-cases, half-twice}
 use Rattle.rules.proofs.Places.{place-in-below}
-use Rattle.rules.proofs.Sound.{row-below, audio-below, sequence-below}
+use Rattle.rules.proofs.Sound.{rank-below, audio-below, sequence-below}
 use Rattle.rules.proofs.Check.{fault-zero}
 
 module _ (y : System) (frame : List ℕ) (c t : ℕ) where
@@ -31,7 +31,7 @@ module _ (y : System) (frame : List ℕ) (c t : ℕ) where
   -- ---- soundBlock: where it lies, and that it names its place in a frame without faults
 
   pub sound-sequence : sequenceOf (halfOf y) c t < sequencesOf y
-  sound-sequence = omega (arith, half-twice y, sequence-below (halfOf y) c (rowOf (halfOf y) t) (half-cases y) (row-below (halfOf y) (half-cases y) t))
+  sound-sequence = omega (arith, half-twice y, sequence-below (halfOf y) c (rankOf (halfOf y) t) (half-cases y) (rank-below (halfOf y) (half-cases y) t))
 
   pub sound-clean : faultIn y frame ≡ 0 → 0 < c → c < 9 → soundNamed y frame c t ≡ true
   sound-clean z c1 c8 =

@@ -20,7 +20,7 @@ use Rattle.rules.specs.Reading.{readSample}
 use Rattle.rules.specs.Audio.{countFor, audioNumber}
 use Rattle.rules.specs.Macroblock.{macroblockNumber, macroblockPart}
 use Rattle.rules.specs.Time.{timeNumber}
-use Rattle.rules.specs.Written.{Lent, writtenFrame}
+use Rattle.rules.specs.Written.{Contents, writtenFrame}
 use Rattle.rules.specs.Write.{Takes}
 use Rattle.rules.specs.Paper.{back}
 use Rattle.rules.specs.Demand2.{Strict, StrictlyRead, given, ReadsBack}
@@ -41,7 +41,7 @@ four-again bytes e = tab-part 0 bytes 0 4 (omega (arith, e)) ∙ take-all 4 byte
 
 -- ---- the frame of what is taken
 
-module _ (y : System) (l : Lent) (size : ℕ) (t : Takes y l size) where
+module _ (y : System) (l : Contents) (size : ℕ) (t : Takes y l size) where
   -- the 77 bytes of a macroblock were lent
   macroblock-lent : (b : ℕ) → b < macroblocksOf y → 77 * b + 77 ≤ length (l .macroblocks)
   macroblock-lent b h = omega (arith, t .pictures)
@@ -122,7 +122,7 @@ lists-one count {xs} {ys} size first rest =
     ∙ ap (λ (zs : List ℤ). getD zs (i - count) (pos 0)) rest
     ∙ getD-drop count ys (i - count) (pos 0))))
 
-pub one-answer : {l : Lent} {c : ℕ} {samples : List ℤ} {b : ℕ} {o o′ : Strict} → ReadsBack l c samples b o → ReadsBack l c samples b o′ → o ≡ o′
+pub one-answer : {l : Contents} {c : ℕ} {samples : List ℤ} {b : ℕ} {o o′ : Strict} → ReadsBack l c samples b o → ReadsBack l c samples b o′ → o ≡ o′
 one-answer {l} {c} {samples} {b} {o} {o′} m m′ =
     let same : o .samples ≡ o′ .samples =
     lists-one (l .count) (m .size ∙ sym (m′ .size)) (λ t h. m .sample t h ∙ sym (m′ .sample t h)) (m .rest ∙ sym (m′ .rest)) in

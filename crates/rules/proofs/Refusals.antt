@@ -26,7 +26,7 @@ use Rattle.rules.specs.Audio.{isAudio, audioRows, audioNumber}
 use Rattle.rules.specs.Macroblock.{pictureRows, macroblockNumber}
 use Rattle.rules.specs.Time.{timeRows, timeNumber}
 use Rattle.rules.specs.Salvage.{salvageNumber}
-use Rattle.rules.specs.Written.{Lent}
+use Rattle.rules.specs.Written.{Contents}
 use Rattle.rules.specs.Write.{lengthsOk, countOk, clockTaken, writeNumber}
 use Rattle.rules.specs.Paper.{sequences, positions, macroblocks, byteAt, fault}
 use Rattle.rules.specs.Refusals.{Table, _if_, _else_, none, FirstFault, OwnFault, Some, WrongDsf, WrongVs, Flagged, WrongLengths, idTable, surveyTable, salvageTable, sequenceTable, viewTable, checked, checkTable, audioTable, macroblockTable, timeTable, writeTable}
@@ -220,7 +220,7 @@ time-exactly k f =
 
 -- ---- write_frame
 
-module _ (k : ℕ) (y : System) (known : systemOf k ≡ Known y) (l : Lent) where
+module _ (k : ℕ) (y : System) (known : systemOf k ≡ Known y) (l : Contents) where
   lengths-means : lengthsOk l y ≡ false → WrongLengths k l
   lengths-means e =
       let m = columns k y known .macroblocks-is in
@@ -247,7 +247,7 @@ module _ (k : ℕ) (y : System) (known : systemOf k ≡ Known y) (l : Lent) wher
       (⊎-elim (λ d. d (eqb-true _ _ (two .1) ∙ sym (ap (λ (n : ℕ). 77 * n) m)))
       (⊎-elim (λ d. d (eqb-true _ _ (third .1))) (λ d. d (eqb-true _ _ (last .1)))))
 
-pub write-exactly : (k : ℕ) (l : Lent) (size : ℕ) → Exactly (writeTable k l size) (writeNumber k l size)
+pub write-exactly : (k : ℕ) (l : Contents) (size : ℕ) → Exactly (writeTable k l size) (writeNumber k l size)
 unfolding writeNumber
 write-exactly k l size =
     row-system k _

@@ -21,7 +21,7 @@ use Rattle.rules.specs.Sound.{difOf, sequenceOf, soundPlace, byteOf}
 use Rattle.rules.specs.Faults.{names}
 use Rattle.rules.specs.Reading.{soundBlock, soundNamed, readSample}
 use Rattle.rules.specs.Salvage.{salvageNumber, salvaged, Salvaged}
-use Rattle.rules.specs.Written.{Lent, storedWord, writtenFrame}
+use Rattle.rules.specs.Written.{Contents, storedWord, writtenFrame}
 use Rattle.rules.specs.Write.{Wrote, Takes}
 use Rattle.rules.specs.Paper
 use Rattle.rules.specs.Paper.{sequences, positions}
@@ -47,7 +47,7 @@ sound-fault y g c t whole c1 c8 =
 
 -- ---- stored: what the word of a position says
 
-stored-says : (y : System) (l : Lent) (size : ℕ) → Takes y l size → (c t : ℕ) → 0 < c → c < 9 → numberOf (sampleOf (storedWord l c t)) ≡ stored l c t
+stored-says : (y : System) (l : Contents) (size : ℕ) → Takes y l size → (c t : ℕ) → 0 < c → c < 9 → numberOf (sampleOf (storedWord l c t)) ≡ stored l c t
 stored-says y l size takes c t c1 c8 =
     by-lt t (l .count)
     (λ below.
@@ -58,7 +58,7 @@ stored-says y l size takes c t c1 c8 =
 
 -- ---- salvage
 
-module _ {k : ℕ} {l : Lent} {frame f g : List ℕ} {samples samples′ : List ℤ} {list list′ : List ℕ} {r : Survey} (y : System)
+module _ {k : ℕ} {l : Contents} {frame f g : List ℕ} {samples samples′ : List ℤ} {list list′ : List ℕ} {r : Survey} (y : System)
     (known : systemOf k ≡ Known y) (wrote : Wrote k l frame 0 f) (same : length g ≡ length f) (space : length samples ≡ 8 * positionsOf y)
     (rescued : Salvaged k g samples list r samples′ list′) where
   takes : Takes y l (length frame)
@@ -114,7 +114,7 @@ module _ {k : ℕ} {l : Lent} {frame f g : List ℕ} {samples samples′ : List 
     faults = salvage-listed k rescued number-is;
   }
 
-pub salvages : {k : ℕ} {l : Lent} {frame f g : List ℕ} {samples samples′ : List ℤ} {list list′ : List ℕ} {r : Survey} → Wrote k l frame 0 f
+pub salvages : {k : ℕ} {l : Contents} {frame f g : List ℕ} {samples samples′ : List ℤ} {list list′ : List ℕ} {r : Survey} → Wrote k l frame 0 f
     → length g ≡ length f → length samples ≡ 8 * positions k → Salvaged k g samples list r samples′ list′ → Salvages k l f g list r samples′ list′
 salvages {k} {l} {frame} wrote same space rescued =
     by-system k
@@ -123,7 +123,7 @@ salvages {k} {l} {frame} wrote same space rescued =
 
 -- ---- Salvages: what meets it is the answer
 
-module _ {k : ℕ} {l : Lent} {f g list list₁ list₂ : List ℕ} {r r′ : Survey} {samples samples′ : List ℤ} (a : Salvages k l f g list r samples list₁)
+module _ {k : ℕ} {l : Contents} {f g list list₁ list₂ : List ℕ} {r r′ : Survey} {samples samples′ : List ℤ} (a : Salvages k l f g list r samples list₁)
     (b : Salvages k l f g list r′ samples′ list₂) where
   -- a position's block names its place or does not
   position-one : (c t : ℕ) → 0 < c → c < 9 → t < positions k
@@ -148,7 +148,7 @@ module _ {k : ℕ} {l : Lent} {f g list list₁ list₂ : List ℕ} {r r′ : Su
   one-salvage : (r ≡ r′) × (samples ≡ samples′) × (list₁ ≡ list₂)
   one-salvage = let one = listed-one (a .faults) (b .faults) (a .number ∙ sym (b .number)) in (one .0, samples-one, one .1)
 
-pub salvage-decided : {k : ℕ} {l : Lent} {frame f g list list′ list″ : List ℕ} {samples samples′ samples″ : List ℤ} {r r″ : Survey} → Wrote k l frame 0 f
+pub salvage-decided : {k : ℕ} {l : Contents} {frame f g list list′ list″ : List ℕ} {samples samples′ samples″ : List ℤ} {r r″ : Survey} → Wrote k l frame 0 f
     → length g ≡ length f → length samples ≡ 8 * positions k → Salvaged k g samples list r samples′ list′ → Salvages k l f g list r″ samples″ list″
     → (r″ ≡ r) × (samples″ ≡ samples′) × (list″ ≡ list′)
 salvage-decided wrote same space rescued m = one-salvage m (salvages wrote same space rescued)

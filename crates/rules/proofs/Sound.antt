@@ -9,7 +9,7 @@ use native.Mathlib.Omega.{arith}
 use lib.Dec.{T, eqb, ltb, eqb→eq, ltb→lt, lit<}
 use Rattle.base.specs.Below.{below}
 use Rattle.base.proofs.Below.{below-at}
-use Rattle.rules.specs.Sound.{difOf, halfAt, rowOf, audioOf, wordNumber, audioAt, rowAt, firstAt, sampleAt}
+use Rattle.rules.specs.Sound.{difOf, halfAt, rankOf, audioOf, wordNumber, audioAt, rankAt, firstAt, sampleAt}
 
 -- ---- s
 
@@ -53,16 +53,16 @@ module _ (s w u : ℕ) (p : 0 < s) (h : u < 9 * s) where
   turn-audio : audioOf s (9 * s * w + u) ≡ audioOf s u
   turn-audio = rw (turn-third, turn-rest, mod-eq-of-lt h)
 
-  turn-row : rowOf s (9 * s * w + u) ≡ rowOf s u
-  turn-row = rw (turn-third, turn-div) (ap (λ (x : ℕ). x % s) rows ∙ mul-add-mod-self-left s (3 * w) (u / 3 + 2 * (u % 3)))
+  turn-rank : rankOf s (9 * s * w + u) ≡ rankOf s u
+  turn-rank = rw (turn-third, turn-div) (ap (λ (x : ℕ). x % s) thirds ∙ mul-add-mod-self-left s (3 * w) (u / 3 + 2 * (u % 3)))
     where
-      rows : 3 * s * w + u / 3 + 2 * (u % 3) ≡ s * (3 * w) + (u / 3 + 2 * (u % 3))
-      rows = omega arith
+      thirds : 3 * s * w + u / 3 + 2 * (u % 3) ≡ s * (3 * w) + (u / 3 + 2 * (u % 3))
+      thirds = omega arith
 
 -- ---- sampleAt: a sample is where the inverse says
 
 is-first : ℕ → ℕ → Bool
-is-first s u = eqb (firstAt s (rowOf s u) (audioOf s u)) u
+is-first s u = eqb (firstAt s (rankOf s u) (audioOf s u)) u
 
 is-block : ℕ → ℕ → Bool
 is-block s u = ltb (audioOf s u) 9
@@ -86,20 +86,20 @@ module _ (s : ℕ) (half : Half s) where
     unfolding w u
     parts = div-add-mod t (9 * s)
 
-    same-row : rowOf s t ≡ rowOf s u
-    same-row = ap (rowOf s) (sym parts) ∙ turn-row s w u (half-some s half) u-below
+    same-rank : rankOf s t ≡ rankOf s u
+    same-rank = ap (rankOf s) (sym parts) ∙ turn-rank s w u (half-some s half) u-below
 
     same-audio : audioOf s t ≡ audioOf s u
     same-audio = ap (audioOf s) (sym parts) ∙ turn-audio s w u (half-some s half) u-below
 
-    pub sample-back : sampleAt s (rowOf s t) (audioOf s t) (wordNumber s t) ≡ t
+    pub sample-back : sampleAt s (rankOf s t) (audioOf s t) (wordNumber s t) ≡ t
     unfolding is-first w
     sample-back =
-        ap₂ (λ (x y : ℕ). sampleAt s x y (t / (9 * s))) same-row same-audio
+        ap₂ (λ (x y : ℕ). sampleAt s x y (t / (9 * s))) same-rank same-audio
         ∙ ap (λ (x : ℕ). 9 * s * (t / (9 * s)) + x) (eqb→eq _ _ (by-half is-first tt tt s half u u-below)) ∙ parts
 
-    pub row-below : rowOf s t < s
-    row-below = mod-lt (t / 3 + 2 * (t % 3)) (half-some s half)
+    pub rank-below : rankOf s t < s
+    rank-below = mod-lt (t / 3 + 2 * (t % 3)) (half-some s half)
 
     pub audio-below : audioOf s t < 9
     unfolding is-block
@@ -108,14 +108,14 @@ module _ (s : ℕ) (half : Half s) where
     pub word-below : t < 36 * (9 * s) → wordNumber s t < 36
     word-below h = div-lt-iff-lt-mul turn-some .1 h
 
--- ---- rowOf, audioOf, wordNumber: the sample at a place has that place
+-- ---- rankOf, audioOf, wordNumber: the sample at a place has that place
 
--- audio block a of row r is number 9 r + a of a half
+-- audio block a of the sequence of rank r is number 9 r + a of a half
 within-turn : ℕ → ℕ → Bool
 within-turn s m = ltb (firstAt s (m / 9) (m % 9)) (9 * s)
 
-row-returns : ℕ → ℕ → Bool
-row-returns s m = eqb (rowOf s (firstAt s (m / 9) (m % 9))) (m / 9)
+rank-returns : ℕ → ℕ → Bool
+rank-returns s m = eqb (rankOf s (firstAt s (m / 9) (m % 9))) (m / 9)
 
 block-returns : ℕ → ℕ → Bool
 block-returns s m = eqb (audioOf s (firstAt s (m / 9) (m % 9))) (m % 9)
@@ -128,27 +128,27 @@ module _ (s : ℕ) (half : Half s) (r a : ℕ) (hr : r < s) (ha : a < 9) where
   unfolding m
   m-below = omega arith
 
-  m-row : m / 9 ≡ r
+  m-rank : m / 9 ≡ r
   unfolding m
-  m-row = omega arith
+  m-rank = omega arith
 
   m-block : m % 9 ≡ a
   unfolding m
   m-block = omega arith
 
   first-is : firstAt s (m / 9) (m % 9) ≡ firstAt s r a
-  first-is = ap₂ (firstAt s) m-row m-block
+  first-is = ap₂ (firstAt s) m-rank m-block
 
   pub first-below : firstAt s r a < 9 * s
   unfolding within-turn
   first-below = subst (λ (x : ℕ). x < 9 * s) first-is (ltb→lt _ _ (by-half within-turn tt tt s half m m-below))
 
   module _ (w : ℕ) where
-    pub row-sample : rowOf s (sampleAt s r a w) ≡ r
-    unfolding row-returns
-    row-sample =
-        turn-row s w (firstAt s r a) (half-some s half) first-below ∙ ap (rowOf s) (sym first-is)
-        ∙ eqb→eq _ _ (by-half row-returns tt tt s half m m-below) ∙ m-row
+    pub rank-sample : rankOf s (sampleAt s r a w) ≡ r
+    unfolding rank-returns
+    rank-sample =
+        turn-rank s w (firstAt s r a) (half-some s half) first-below ∙ ap (rankOf s) (sym first-is)
+        ∙ eqb→eq _ _ (by-half rank-returns tt tt s half m m-below) ∙ m-rank
 
     pub audio-sample : audioOf s (sampleAt s r a w) ≡ a
     unfolding block-returns
@@ -165,15 +165,15 @@ module _ (s : ℕ) (half : Half s) (r a : ℕ) (hr : r < s) (ha : a < 9) where
         let l : (w + 1) * (9 * s) ≤ 36 * (9 * s) = mul-le-mul-right (9 * s) g in
         omega (arith, first-below)
 
--- ---- audioAt, rowAt: the audio channel of a sequence, and its row there
+-- ---- audioAt, rankAt: the audio channel of a sequence, and its rank there
 
--- row r of audio channel c's half is sequence s · halfAt c + r of its DIF channel
+-- the sequence of rank r of audio channel c's half is sequence s · halfAt c + r of its DIF channel
 module _ (s c r : ℕ) (half : Half s) (hr : r < s) where
   half-sequence : (s * halfAt c + r) / s ≡ halfAt c
   half-sequence = mul-add-div (half-some s half) (halfAt c) r ∙ ap (λ (x : ℕ). halfAt c + x) (div-eq-of-lt hr) ∙ omega arith
 
-  pub row-sequence : rowAt s (s * halfAt c + r) ≡ r
-  row-sequence = mul-add-mod-self-left s (halfAt c) r ∙ mod-eq-of-lt hr
+  pub rank-sequence : rankAt s (s * halfAt c + r) ≡ r
+  rank-sequence = mul-add-mod-self-left s (halfAt c) r ∙ mod-eq-of-lt hr
 
   pub audio-sequence : 0 < c → audioAt s (difOf c) (s * halfAt c + r) ≡ c
   audio-sequence hc = ap (λ (x : ℕ). 2 * difOf c + x + 1) half-sequence ∙ omega arith
@@ -184,7 +184,7 @@ module _ (s c r : ℕ) (half : Half s) (hr : r < s) where
       let l : s * halfAt c ≤ s * 1 = mul-le-mul-left s b in
       omega arith
 
--- and back: sequence q of DIF channel h is that row of that audio channel
+-- and back: sequence q of DIF channel h has that rank in that audio channel
 module _ (s h q : ℕ) (half : Half s) (hq : q < 2 * s) where
   which-half : q / s < 2
   which-half = div-lt-iff-lt-mul (half-some s half) .1 hq
@@ -192,7 +192,7 @@ module _ (s h q : ℕ) (half : Half s) (hq : q < 2 * s) where
   pub dif-audio : difOf (audioAt s h q) ≡ h
   dif-audio = omega (arith, which-half)
 
-  pub sequence-audio : s * halfAt (audioAt s h q) + rowAt s q ≡ q
+  pub sequence-audio : s * halfAt (audioAt s h q) + rankAt s q ≡ q
   sequence-audio =
       let e : halfAt (audioAt s h q) ≡ q / s = omega (arith, which-half) in
       ap (λ (x : ℕ). s * x + q % s) e ∙ div-add-mod q s

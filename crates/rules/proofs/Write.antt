@@ -15,12 +15,12 @@ use Rattle.rules.specs.declared.SystemNumber.the-variants.{Known, NoSyst
 use Rattle.rules.specs.Systems.{sequencesOf, isCount, systemOf}
 use Rattle.rules.specs.TimeCode.{timePack, timeTaken}
 use Rattle.rules.specs.Samples.{allInRange}
-use Rattle.rules.specs.Written.{Lent, writtenFrame}
+use Rattle.rules.specs.Written.{Contents, writtenFrame}
 use Rattle.rules.specs.Write.{lengthsOk, writeNumber, writeLeft, Wrote, Takes}
 
 -- ---- Wrote
 
-pub write-frame-one : (k : ℕ) (l : Lent) (frame : List ℕ) → ExactlyOne (ℕ × List ℕ) (λ o. Wrote k l frame (o .0) (o .1))
+pub write-frame-one : (k : ℕ) (l : Contents) (frame : List ℕ) → ExactlyOne (ℕ × List ℕ) (λ o. Wrote k l frame (o .0) (o .1))
 write-frame-one k l frame = record {
   outcome = (writeNumber k l (length frame), writeLeft k l frame);
   meets = record { answer = refl; left = refl };
@@ -28,13 +28,13 @@ write-frame-one k l frame = record {
 }
 
 -- a refusal leaves the frame as it came
-pub write-refused : {k : ℕ} {l : Lent} {frame frame′ : List ℕ} {r : ℕ} → Wrote k l frame r frame′ → (r ≡ 0 → ⊥) → frame′ ≡ frame
+pub write-refused : {k : ℕ} {l : Contents} {frame frame′ : List ℕ} {r : ℕ} → Wrote k l frame r frame′ → (r ≡ 0 → ⊥) → frame′ ≡ frame
 unfolding writeLeft
 write-refused {k} {l} {frame} w d = w .left ∙ pick-false _ _ (ne-eqb (writeNumber k l (length frame)) 0 (λ z. d (w .answer ∙ z)))
 
 -- ---- writeNumber: each number exactly when its row is the first that holds
 
-module _ (k : ℕ) (l : Lent) (size : ℕ) where
+module _ (k : ℕ) (l : Contents) (size : ℕ) where
   pub write-1 : systemOf k ≡ NoSystem → 1 ≡ writeNumber k l size
   unfolding writeNumber firstOf pick
   write-1 e = rw e refl
@@ -102,7 +102,7 @@ module _ (k : ℕ) (l : Lent) (size : ℕ) where
 -- ---- writeLeft
 
 -- a frame that was written is that of what was lent, which is in order
-module _ (k : ℕ) (y : System) (known : systemOf k ≡ Known y) (l : Lent) (frame : List ℕ) where
+module _ (k : ℕ) (y : System) (known : systemOf k ≡ Known y) (l : Contents) (frame : List ℕ) where
   pub write-takes : {frame′ : List ℕ} → Wrote k l frame 0 frame′ → Takes y l (length frame)
   write-takes w = taken-takes k l (length frame) y known (sym (w .answer))
 
@@ -113,11 +113,11 @@ module _ (k : ℕ) (y : System) (known : systemOf k ≡ Known y) (l : Lent) (fra
       (w .answer ∙ z, w .left ∙ pick-true _ _ (eq-eqb _ _ z) ∙ rw known refl)
 
 -- as the code leaves them
-pub write-stopped : (k : ℕ) (l : Lent) (frame : List ℕ) (r : ℕ) → r ≡ writeNumber k l (length frame) → (r ≡ 0 → ⊥) → Wrote k l frame r frame
+pub write-stopped : (k : ℕ) (l : Contents) (frame : List ℕ) (r : ℕ) → r ≡ writeNumber k l (length frame) → (r ≡ 0 → ⊥) → Wrote k l frame r frame
 unfolding writeLeft
 write-stopped k l frame r e d = record { answer = e; left = sym (pick-false _ _ (ne-eqb _ 0 (λ z. d (e ∙ z)))) }
 
-pub write-done : (k : ℕ) (y : System) (l : Lent) (frame frame′ : List ℕ) (r : ℕ) → systemOf k ≡ Known y → r ≡ writeNumber k l (length frame) → r ≡ 0 → frame′ ≡ writtenFrame y l
+pub write-done : (k : ℕ) (y : System) (l : Contents) (frame frame′ : List ℕ) (r : ℕ) → systemOf k ≡ Known y → r ≡ writeNumber k l (length frame) → r ≡ 0 → frame′ ≡ writtenFrame y l
     → Wrote k l frame 0 frame′
 unfolding writeLeft
 write-done k y l frame frame′ r known e z left =

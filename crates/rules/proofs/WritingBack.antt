@@ -8,7 +8,7 @@ use lib.ListN.{length}
 use Rattle.rules.specs.declared.System.{System}
 use Rattle.rules.specs.declared.SystemNumber.the-variants.{Known}
 use Rattle.rules.specs.Systems.{systemOf}
-use Rattle.rules.specs.Written.{Lent}
+use Rattle.rules.specs.Written.{Contents}
 use Rattle.rules.specs.Write.{Wrote}
 use Rattle.rules.specs.Paper.{positions, macroblocks}
 use Rattle.rules.specs.Demand2.{Strict, StrictlyRead, LaidOut, ReadsBack, WritesBack}
@@ -18,7 +18,7 @@ use Rattle.rules.proofs.ReadingBack.{reads-back, one-answer}
 use Rattle.rules.proofs.Form.{laid-out}
 use Rattle.rules.proofs.LaidOut.{laid-out-one}
 
-module _ {k : ℕ} {l : Lent} {frame f : List ℕ} (wrote : Wrote k l frame 0 f) where
+module _ {k : ℕ} {l : Contents} {frame f : List ℕ} (wrote : Wrote k l frame 0 f) where
   -- what answers 0 was told a system
   by-wrote : {P : Type 0} → ((y : System) → systemOf k ≡ Known y → P) → P
   by-wrote = by-system k (λ none. absurd (omega (arith, wrote .answer, write-1 k l (length frame) none)))
@@ -28,12 +28,12 @@ module _ {k : ℕ} {l : Lent} {frame f : List ℕ} (wrote : Wrote k l frame 0 f)
       by-wrote (λ y known.
       let takes = write-takes k y known l frame wrote in
       let is = sym (write-taken k y known l frame takes wrote .1) in
-      let row = columns k y known in
+      let cols = columns k y known in
       record {
         laid-out = subst (LaidOut k l) is (laid-out k y known l (length frame) takes);
         reads-back = λ c samples b o c1 c8 room hb.
             subst (λ (x : List ℕ). StrictlyRead k x c samples b o → ReadsBack l c samples b o) is
-            (reads-back y l (length frame) takes k known c samples b o c1 c8 (room ∙ row .positions-is) (subst (λ (n : ℕ). b < n) (row .macroblocks-is) hb));
+            (reads-back y l (length frame) takes k known c samples b o c1 c8 (room ∙ cols .positions-is) (subst (λ (n : ℕ). b < n) (cols .macroblocks-is) hb));
       })
 
   -- whatever reads back is what our reads answer

@@ -30,10 +30,10 @@ use Rattle.rules.specs.Vaux.{vsAt, vsPack, vauxPack, vauxBytes, vauxBloc
 use Rattle.rules.specs.Aaux.{asAt, asPack, aauxPack, aauxIn}
 use Rattle.rules.specs.Samples.{numberOf, inRange, sampleOf, allInRange, wordFor, bytesOf, wordAt, backOf}
 use Rattle.rules.specs.Sound as sound
-use Rattle.rules.specs.Sound.{difOf, halfAt, rowOf, audioOf, wordNumber, byteOf, audioAt, sampleAt}
+use Rattle.rules.specs.Sound.{difOf, halfAt, rankOf, audioOf, wordNumber, byteOf, audioAt, sampleAt}
 use Rattle.rules.specs.Picture.{slot, carriedIn}
 use Rattle.rules.specs.Faults.{faultAt, blockFaults, sequenceFaults, channelFaults, frameFaults}
-use Rattle.rules.specs.Written.{Lent, storedWord, wordBytes, audioBytes, carriedBytes, videoBytes, payload, entryBlock, writtenBlock, writtenSequence, writtenChannel, writtenFrame}
+use Rattle.rules.specs.Written.{Contents, storedWord, wordBytes, audioBytes, carriedBytes, videoBytes, payload, entryBlock, writtenBlock, writtenSequence, writtenChannel, writtenFrame}
 use Rattle.rules.proofs.Systems.{half-cases, half-twice, positions-half, sequences-le}
 use Rattle.rules.proofs.Places.{place-in-below, entry-place-in}
 use Rattle.rules.proofs.Blocks.{block-in-sequence}
@@ -43,11 +43,11 @@ use Rattle.rules.proofs.Vaux.{vs-below, vaux-vs, vaux-length, vaux-pack
 use Rattle.rules.proofs.Aaux.{aaux-as, as-below}
 use Rattle.rules.proofs.Faults.{written-names}
 use Rattle.rules.proofs.Samples.{bytes-word, number-again, silence, all-in}
-use Rattle.rules.proofs.Sound.{Half, sample-back, row-below, audio-below, word-below, row-sequence, audio-sequence, sequence-below}
+use Rattle.rules.proofs.Sound.{Half, sample-back, rank-below, audio-below, word-below, rank-sequence, audio-sequence, sequence-below}
 
 -- ---- how long each thing is
 
-word-wide : (y : System) (l : Lent) (h q a : ℕ) → Wide 2 (wordBytes y l h q a)
+word-wide : (y : System) (l : Contents) (h q a : ℕ) → Wide 2 (wordBytes y l h q a)
 unfolding wordBytes
 word-wide y l h q a w = refl
 
@@ -56,7 +56,7 @@ unfolding carriedBytes
 carried-length ms (Macroblock b) = length-tab _ 77
 carried-length ms Nothing = refl
 
-pub payload-length : (y : System) (l : Lent) (h q : ℕ) (s : Section) (k : ℕ) → length (payload y l h q s k) ≡ 77
+pub payload-length : (y : System) (l : Contents) (h q : ℕ) (s : Section) (k : ℕ) → length (payload y l h q s k) ≡ 77
 unfolding payload audioBytes videoBytes
 payload-length y l h q Header k = header-length y
 payload-length y l h q Subcode k = subcode-length (isFirst y q) (timePack (l .timeCode)) (groupPack (l .binaryGroup)) k
@@ -64,23 +64,23 @@ payload-length y l h q Vaux k = vaux-length y q k
 payload-length y l h q Audio k = omega (arith, length-run 2 (wordBytes y l h q k) (word-wide y l h q k) 36)
 payload-length y l h q Video k = carried-length (l .macroblocks) (carriedIn y (slot h q k))
 
-pub entry-block-length : (y : System) (l : Lent) (h q : ℕ) (e : Entry) → length (entryBlock y l h q e) ≡ 80
+pub entry-block-length : (y : System) (l : Contents) (h q : ℕ) (e : Entry) → length (entryBlock y l h q e) ≡ 80
 unfolding entryBlock idBytes
 entry-block-length y l h q e = omega (arith, payload-length y l h q (e .section) (e .number .0))
 
-pub block-wide : (y : System) (l : Lent) (h q : ℕ) → Wide 80 (writtenBlock y l h q)
+pub block-wide : (y : System) (l : Contents) (h q : ℕ) → Wide 80 (writtenBlock y l h q)
 unfolding writtenBlock
 block-wide y l h q p = entry-block-length y l h q (entryAt (place p))
 
-pub sequence-wide : (y : System) (l : Lent) (h : ℕ) → Wide 12000 (writtenSequence y l h)
+pub sequence-wide : (y : System) (l : Contents) (h : ℕ) → Wide 12000 (writtenSequence y l h)
 unfolding writtenSequence
 sequence-wide y l h q = length-run 80 _ (block-wide y l h _) 150
 
-pub channel-wide : (y : System) (l : Lent) → Wide (sequencesOf y * 12000) (writtenChannel y l)
+pub channel-wide : (y : System) (l : Contents) → Wide (sequencesOf y * 12000) (writtenChannel y l)
 unfolding writtenChannel
 channel-wide y l h = length-run 12000 (writtenSequence y l h) (sequence-wide y l h) (sequencesOf y)
 
-pub frame-length : (y : System) (l : Lent) → length (writtenFrame y l) ≡ 48000 * sequencesOf y
+pub frame-length : (y : System) (l : Contents) → length (writtenFrame y l) ≡ 48000 * sequencesOf y
 unfolding writtenFrame
 frame-length y l = length-run (sequencesOf y * 12000) (writtenChannel y l) (channel-wide y l) 4 ∙ omega arith
 
@@ -89,7 +89,7 @@ frame-length y l = length-run (sequencesOf y * 12000) (writtenChannel y l) (chan
 start-parts : (y : System) (h q p : ℕ) → startOf y h q p ≡ h * (sequencesOf y * 12000) + (q * 12000 + p * 80)
 start-parts y h q p = omega (arith, mul-comm (sequencesOf y) h, mul-assoc h (sequencesOf y) 12000)
 
-module _ (y : System) (l : Lent) (h q p : ℕ) (hh : h < 4) (hq : q < sequencesOf y) (hp : p < 150) where
+module _ (y : System) (l : Contents) (h q p : ℕ) (hh : h < 4) (hq : q < sequencesOf y) (hp : p < 150) where
   pub frame-block : blockAt y (writtenFrame y l) h q p ≡ writtenBlock y l h q p
   unfolding writtenFrame writtenChannel writtenSequence blockAt
   frame-block =
@@ -106,7 +106,7 @@ module _ (y : System) (l : Lent) (h q p : ℕ) (hh : h < 4) (hq : q < sequencesO
       ∙ written-names (payload y l h q (entryAt (place p) .section) (entryAt (place p) .number .0)) h q p hh (omega (arith, sequences-le y)) hp
 
 -- so a written frame has no fault
-pub frame-faultless : (y : System) (l : Lent) → frameFaults y (writtenFrame y l) ≡ []
+pub frame-faultless : (y : System) (l : Contents) → frameFaults y (writtenFrame y l) ≡ []
 unfolding frameFaults channelFaults sequenceFaults blockFaults
 frame-faultless y l =
     run-none _ 4 (λ h hh.
@@ -118,11 +118,11 @@ frame-faultless y l =
 
 -- ---- payload: the block of a section is its ID and its 77 bytes
 
-pub block-entry : (y : System) (l : Lent) (h q : ℕ) (s : Section) (k : ℕ) → k < blocksOf s → writtenBlock y l h q (placeIn s k) ≡ idBytes (idOf h q s k) ++ payload y l h q s k
+pub block-entry : (y : System) (l : Contents) (h q : ℕ) (s : Section) (k : ℕ) → k < blocksOf s → writtenBlock y l h q (placeIn s k) ≡ idBytes (idOf h q s k) ++ payload y l h q s k
 unfolding writtenBlock entryBlock
 block-entry y l h q s k hk = ap (entryBlock y l h q) (entry-place-in s k hk)
 
-module _ (y : System) (l : Lent) (h q : ℕ) (s : Section) (k : ℕ) (hh : h < 4) (hq : q < sequencesOf y) (hk : k < blocksOf s) where
+module _ (y : System) (l : Contents) (h q : ℕ) (s : Section) (k : ℕ) (hh : h < 4) (hq : q < sequencesOf y) (hk : k < blocksOf s) where
   pub frame-entry : blockAt y (writtenFrame y l) h q (placeIn s k) ≡ idBytes (idOf h q s k) ++ payload y l h q s k
   frame-entry = frame-block y l h q (placeIn s k) hh hq (place-in-below s k hk) ∙ block-entry y l h q s k hk
 
@@ -133,7 +133,7 @@ module _ (y : System) (l : Lent) (h q : ℕ) (s : Section) (k : ℕ) (hh : h < 4
 -- ---- storedWord: the word at the place of sample t is that sample's
 
 -- byte i of word w of an audio block
-audio-byte : (y : System) (l : Lent) (h q a w i : ℕ) → w < 36 → i < 2
+audio-byte : (y : System) (l : Contents) (h q a w i : ℕ) → w < 36 → i < 2
     → getD (idBytes (idOf h q Audio a) ++ payload y l h q Audio a) (8 + (w * 2 + i)) 0 ≡ getD (wordBytes y l h q a w) i 0
 unfolding idBytes payload audioBytes
 audio-byte y l h q a w i hw hi =
@@ -146,7 +146,7 @@ audio-byte y l h q a w i hw hi =
     ∙ getD-append-add pack words (w * 2 + i) 0
     ∙ run-element 0 2 (wordBytes y l h q a) (word-wide y l h q a) w 36 i hw hi
 
-module _ (y : System) (l : Lent) (c t : ℕ) (c1 : 0 < c) (c8 : c < 9) (ht : t < positionsOf y) where
+module _ (y : System) (l : Contents) (c t : ℕ) (c1 : 0 < c) (c8 : c < 9) (ht : t < positionsOf y) where
   s : ℕ
   s = halfOf y
 
@@ -163,7 +163,7 @@ module _ (y : System) (l : Lent) (c t : ℕ) (c1 : 0 < c) (c8 : c < 9) (ht : t <
   dif-below = omega arith
 
   sequence-in : q < sequencesOf y
-  sequence-in = omega (arith, half-twice y, sequence-below (halfOf y) c (rowOf (halfOf y) t) half (row-below (halfOf y) half t))
+  sequence-in = omega (arith, half-twice y, sequence-below (halfOf y) c (rankOf (halfOf y) t) half (rank-below (halfOf y) half t))
 
   -- its block
   abbrev pub soundBlock : List ℕ
@@ -180,8 +180,8 @@ module _ (y : System) (l : Lent) (c t : ℕ) (c1 : 0 < c) (c8 : c < 9) (ht : t <
   bytes-are : wordBytes y l (difOf c) q (audioOf (halfOf y) t) (wordNumber (halfOf y) t) ≡ bytesOf (storedWord l c t)
   unfolding wordBytes
   bytes-are =
-      ap₂ (λ (x z : ℕ). bytesOf (storedWord l x z)) (audio-sequence (halfOf y) c (rowOf (halfOf y) t) half (row-below (halfOf y) half t) c1)
-      (ap (λ (r : ℕ). sampleAt (halfOf y) r (audioOf (halfOf y) t) (wordNumber (halfOf y) t)) (row-sequence (halfOf y) c (rowOf (halfOf y) t) half (row-below (halfOf y) half t))
+      ap₂ (λ (x z : ℕ). bytesOf (storedWord l x z)) (audio-sequence (halfOf y) c (rankOf (halfOf y) t) half (rank-below (halfOf y) half t) c1)
+      (ap (λ (r : ℕ). sampleAt (halfOf y) r (audioOf (halfOf y) t) (wordNumber (halfOf y) t)) (rank-sequence (halfOf y) c (rankOf (halfOf y) t) half (rank-below (halfOf y) half t))
       ∙ sample-back (halfOf y) half t)
 
   byte-is : (i : ℕ) → i < 2 → getD soundBlock (8 + (wordNumber (halfOf y) t * 2 + i)) 0 ≡ getD (bytesOf (storedWord l c t)) i 0
@@ -201,7 +201,7 @@ module _ (y : System) (l : Lent) (c t : ℕ) (c1 : 0 < c) (c8 : c < 9) (ht : t <
   frame-word = ap₂ (λ (x z : ℕ). x * 256 + z) frame-high frame-low ∙ bytes-word (storedWord l c t)
 
 -- what a word says that was stored: the number that was given, or silence from the count on
-module _ (l : Lent) (c t : ℕ) (c1 : 0 < c) (c8 : c < 9) (len : length (l .sound) ≡ 8 * l .count) (all : allInRange (l .sound) ≡ true) (ht : t < l .count) where
+module _ (l : Contents) (c t : ℕ) (c1 : 0 < c) (c8 : c < 9) (len : length (l .sound) ≡ 8 * l .count) (all : allInRange (l .sound) ≡ true) (ht : t < l .count) where
   abbrev given : ℤ
   given = getD (l .sound) ((c - 1) * l .count + t) (pos 0)
 
@@ -217,13 +217,13 @@ module _ (l : Lent) (c t : ℕ) (c1 : 0 < c) (c8 : c < 9) (len : length (l .soun
   pub stored-given : numberOf (sampleOf (storedWord l c t)) ≡ backOf given
   stored-given = ap (λ (w : ℕ). numberOf (sampleOf w)) stored-word ∙ number-again given given-in
 
-pub stored-tail : (l : Lent) (c t : ℕ) → l .count ≤ t → storedWord l c t ≡ 0
+pub stored-tail : (l : Contents) (c t : ℕ) → l .count ≤ t → storedWord l c t ≡ 0
 unfolding storedWord
 stored-tail l c t ht = pick-false _ _ (le-ltb t (l .count) ht)
 
 -- ---- carriedBytes: a slot holds its macroblock's 77 bytes, or FFh
 
-module _ (y : System) (l : Lent) (h q v : ℕ) (hh : h < 4) (hq : q < sequencesOf y) (hv : v < 135) where
+module _ (y : System) (l : Contents) (h q v : ℕ) (hh : h < 4) (hq : q < sequencesOf y) (hv : v < 135) where
   abbrev pub pictureBytes : List ℕ
   pictureBytes = drop 3 (blockAt y (writtenFrame y l) h q (placeIn Video v))
 
@@ -239,7 +239,7 @@ module _ (y : System) (l : Lent) (h q v : ℕ) (hh : h < 4) (hq : q < sequencesO
 
 -- ---- the packs that were written, where a reader looks for them
 
-module _ (y : System) (l : Lent) (h q : ℕ) (hh : h < 4) (hq : q < sequencesOf y) where
+module _ (y : System) (l : Contents) (h q : ℕ) (hh : h < 4) (hq : q < sequencesOf y) where
   abbrev pub headerBlock : List ℕ
   headerBlock = blockAt y (writtenFrame y l) h q (placeIn Header 0)
 
@@ -273,8 +273,8 @@ module _ (y : System) (l : Lent) (h q : ℕ) (hh : h < 4) (hq : q < sequencesOf 
       (vaux-pack y q (vsAt q / 15) (idBytes (idOf h q Vaux (vsAt q / 15))) (vsAt q % 15) refl (omega arith))
       ∙ vaux-vs y q
 
--- the AS of row r of audio channel c's half says the count and the channel's mode
-pub frame-as : (y : System) (l : Lent) (c r q : ℕ) → 0 < c → c < 9 → r < halfOf y → q ≡ halfOf y * halfAt c + r
+-- the AS of the sequence of rank r of audio channel c's half says the count and the channel's mode
+pub frame-as : (y : System) (l : Contents) (c r q : ℕ) → 0 < c → c < 9 → r < halfOf y → q ≡ halfOf y * halfAt c + r
     → aauxIn (blockAt y (writtenFrame y l) (difOf c) q (placeIn Audio (asAt q))) ≡ asPack y (l .count) c
 unfolding payload audioBytes idBytes
 frame-as y l c r q c1 c8 hr eq =

@@ -29,8 +29,8 @@ abbrev pub firstOfHalf : System → ℕ → ℕ
 firstOfHalf y c = halfOf y * halfAt c
 
 -- every sequence of its half passes
-abbrev pub everyRow : System → List ℕ → ℕ → (ℕ → List ℕ → Bool) → Bool
-everyRow y frame c test = everyFrom y frame (difOf c) (firstOfHalf y c) (halfOf y) test
+abbrev pub everyInHalf : System → List ℕ → ℕ → (ℕ → List ℕ → Bool) → Bool
+everyInHalf y frame c test = everyFrom y frame (difOf c) (firstOfHalf y c) (halfOf y) test
 
 -- the AS of sequence q
 abbrev pub asIn : ℕ → List ℕ → Pack
@@ -58,8 +58,8 @@ isAudio c = ltb 0 c && ltb c 9
 unfoldable pub audioRows : System → List ℕ → ℕ → List Refusal
 audioRows y frame c =
     23 when not (everySequence y frame (unflagged 1))
-    ∷ 24 when not (everyRow y frame c (asKeeps y c))
-    ∷ 25 when not (everyRow y frame c (countIs (countFor y frame c)))
+    ∷ 24 when not (everyInHalf y frame c (asKeeps y c))
+    ∷ 25 when not (everyInHalf y frame c (countIs (countFor y frame c)))
     ∷ []
 
 -- system k, the frame, audio channel c, a list of so many entries

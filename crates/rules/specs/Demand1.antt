@@ -22,7 +22,7 @@ use Rattle.rules.specs.Audio.{AudioRead}
 use Rattle.rules.specs.Macroblock.{MacroblockNumbered, MacroblockRead, MacroblockLies}
 use Rattle.rules.specs.Time.{TimeRead}
 use Rattle.rules.specs.Salvage.{Salvaged}
-use Rattle.rules.specs.Written.{Lent}
+use Rattle.rules.specs.Written.{Contents}
 use Rattle.rules.specs.Write.{Wrote}
 use Rattle.rules.specs.Refusals.{Table, idTable, surveyTable, salvageTable, sequenceTable, viewTable, checkTable, audioTable, macroblockTable, timeTable}
 use Rattle.rules.specs.Refusals.{writeTable}
@@ -75,5 +75,5 @@ pub record EveryCall : Type 0 where
       → Answers (Survey × List ℤ × List ℕ) (λ o. Salvaged k frame samples list (o .0) (o .1) (o .2)) (λ o. o .0 .number)
       (salvageTable k (length frame) (length samples))
       (λ o. o ≡ (record { number = o .0 .number; total = 0; kept = 0 }, samples, list))
-  pub write-frame : (k : ℕ) (l : Lent) (frame : List ℕ)
+  pub write-frame : (k : ℕ) (l : Contents) (frame : List ℕ)
       → Answers (ℕ × List ℕ) (λ o. Wrote k l frame (o .0) (o .1)) (λ o. o .0) (writeTable k l (length frame)) (λ o. o .1 ≡ frame)

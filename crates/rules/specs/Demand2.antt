@@ -22,7 +22,7 @@ use Rattle.rules.specs.Check.{Checked}
 use Rattle.rules.specs.Audio.{AudioRead}
 use Rattle.rules.specs.Macroblock.{MacroblockNumbered, MacroblockRead}
 use Rattle.rules.specs.Time.{TimeRead}
-use Rattle.rules.specs.Written.{Lent}
+use Rattle.rules.specs.Written.{Contents}
 use Rattle.rules.specs.Paper.{sequences, positions, macroblocks, rate, start, byteAt, bytesAt, channelBy, soundChannel, soundFirst, soundStart, soundWord}
 use Rattle.rules.specs.Paper.{sampleBy, wordBy, back, countSaid, slotPlace, carried}
 use Rattle.rules.specs.Form.{HasForm}
@@ -98,10 +98,10 @@ pub record GoesThrough (o : Strict) : Type 0 where
 -- ---- "Frames are .. written" so: the frame f that is made of l
 
 -- what was lent for position t of audio channel c: "eight times the one count for sound, also channel after channel"
-abbrev pub given : Lent → ℕ → ℕ → ℤ
+abbrev pub given : Contents → ℕ → ℕ → ℤ
 given l c t = getD (l .sound) ((c - 1) * l .count + t) (pos 0)
 
-pub record LaidOut (k : ℕ) (l : Lent) (f : List ℕ) : Type 0 where
+pub record LaidOut (k : ℕ) (l : Contents) (f : List ℕ) : Type 0 where
   -- "block IDs, packs", and every byte that is not carried
   pub form : HasForm k f
   pub count : countSaid (sequences k) f 0 0 ≡ l .count
@@ -115,7 +115,7 @@ pub record LaidOut (k : ℕ) (l : Lent) (f : List ℕ) : Type 0 where
       → bytesAt (sequences k) f h q (slotPlace (5 * g + m)) 3 77 ≡ take 77 (drop (77 * b) (l .macroblocks))
 
 -- "A frame from our writer reads back to the samples, macroblocks, time code and binary groups it was given"
-pub record ReadsBack (l : Lent) (c : ℕ) (samples : List ℤ) (b : ℕ) (o : Strict) : Type 0 where
+pub record ReadsBack (l : Contents) (c : ℕ) (samples : List ℤ) (b : ℕ) (o : Strict) : Type 0 where
   pub check : o .check ≡ 0
   pub audio : o .audio ≡ record { number = 0; count = l .count }
   -- "except that a level of -32,768 comes back as -32,767"
@@ -126,15 +126,15 @@ pub record ReadsBack (l : Lent) (c : ℕ) (samples : List ℤ) (b : ℕ) (o : St
   pub part : o .part ≡ take 77 (drop (77 * b) (l .macroblocks))
   pub time : o .time ≡ record { number = 0; time = l .timeCode; group = l .binaryGroup }
 
--- the writer was lent l, firstAnswered 0 and left f; what it takes is its refusal table's
-pub record WritesBack (k : ℕ) (l : Lent) (f : List ℕ) : Type 0 where
+-- the writer was lent l, answered 0 and left f; what it takes is its refusal table's
+pub record WritesBack (k : ℕ) (l : Contents) (f : List ℕ) : Type 0 where
   pub laid-out : LaidOut k l f
   pub reads-back : (c : ℕ) (samples : List ℤ) (b : ℕ) (o : Strict) → 0 < c → c < 9 → length samples ≡ positions k → b < macroblocks k
       → StrictlyRead k f c samples b o → ReadsBack l c samples b o
 
 -- ---- what may be lent for a system and a count: one level throughout, and time 0
 
-abbrev pub tone : ℕ → ℕ → ℕ → Lent
+abbrev pub tone : ℕ → ℕ → ℕ → Contents
 tone k count level = record {
   count = count;
   sound = replicate (8 * count) (pos level);

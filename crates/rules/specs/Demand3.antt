@@ -10,12 +10,12 @@ use lib.IntN.{ℤ, pos}
 use lib.ListN.{length, getD, take, drop}
 use Rattle.base.specs.Pick.{pick}
 use Rattle.rules.specs.declared.Survey.{Survey}
-use Rattle.rules.specs.Written.{Lent}
+use Rattle.rules.specs.Written.{Contents}
 use Rattle.rules.specs.Paper.{sequences, positions, streamFault, records, soundIndex, soundWord, sampleBy, back}
 use Rattle.rules.specs.Demand2.{given}
 
 -- a position as it was stored: the sample given, and silence from the count on
-abbrev pub stored : Lent → ℕ → ℕ → ℤ
+abbrev pub stored : Contents → ℕ → ℕ → ℤ
 stored l c t = pick (ltb t (l .count)) (back (given l c t)) (pos 0)
 
 -- the 80 bytes of a position's block, and its fault, 0 where it names its place
@@ -26,7 +26,7 @@ abbrev pub faultFor : ℕ → List ℕ → ℕ → ℕ → ℕ
 faultFor n f c t = streamFault n f (soundIndex n c t) (soundIndex n c t)
 
 -- x is what salvage returns of position t of audio channel c
-pub record SampleSalvaged (n : ℕ) (l : Lent) (f g : List ℕ) (c t : ℕ) (x : ℤ) : Type 0 where
+pub record SampleSalvaged (n : ℕ) (l : Contents) (f g : List ℕ) (c t : ℕ) (x : ℤ) : Type 0 where
   -- "Told the same system, salvage returns each audio sample from an untouched block exactly as it was stored."
   pub untouched : blockOf n g c t ≡ blockOf n f c t → x ≡ stored l c t
   -- "A sample whose block no longer names its own place comes back as lost."
@@ -42,7 +42,7 @@ pub record Listed (n : ℕ) (bytes : List ℕ) (first m : ℕ) (list : List ℕ)
   -- "its total is the number of all such blocks"
   pub total : 4 * r .total ≡ length (records n bytes first m)
 
-pub record Salvages (k : ℕ) (l : Lent) (f g list : List ℕ) (r : Survey) (samples : List ℤ) (list′ : List ℕ) : Type 0 where
+pub record Salvages (k : ℕ) (l : Contents) (f g list : List ℕ) (r : Survey) (samples : List ℤ) (list′ : List ℕ) : Type 0 where
   pub number : r .number ≡ 0
   pub size : length samples ≡ 8 * positions k
   pub sample : (c t : ℕ) → 0 < c → c < 9 → t < positions k → SampleSalvaged (sequences k) l f g c t (getD samples ((c - 1) * positions k + t) (pos 0))

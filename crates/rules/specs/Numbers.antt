@@ -32,7 +32,7 @@ use Rattle.rules.specs.Picture.{slot, carriedIn, carrierOf}
 use Rattle.rules.specs.Faults.{faultAt, NamesPlace}
 use Rattle.rules.specs.Stream.{named}
 use Rattle.rules.specs.Reading.{soundBlock, soundNamed}
-use Rattle.rules.specs.Write.{lent}
+use Rattle.rules.specs.Write.{contentsOf}
 use Rattle.rules.specs.Paper
 use Rattle.rules.specs.Paper.{sequences, macroblocks, figure3, channelBits, fault, sampleBy, carried}
 
@@ -94,7 +94,7 @@ pub record InNumbers : Type 0 where
   pub words : (z : ℤ) → inRange z ≡ true → (wordFor z ≡ Paper.wordBy z) × (backOf z ≡ Paper.back z)
   -- what the writer is lent, by its parameters in their order
   pub lends : (count : ℕ) (sound : List ℤ) (macroblocks time group : List ℕ)
-      → lent count sound macroblocks time group
+      → contentsOf count sound macroblocks time group
       ≡ record { count = count; sound = sound; macroblocks = macroblocks; timeCode = time; binaryGroup = group }
   -- what the slot V(5g+m) carries, and that every macroblock of the system has its slot
   pub slots : (k : ℕ) (y : System) → systemOf k ≡ Known y → (h q g m : ℕ) → h < 4 → q < sequencesOf y → g < 27 → m < 5

@@ -11,7 +11,7 @@ use lib.ListN.{length, getD}
 use Rattle.base.specs.Pick.{pick}
 use Rattle.rules.specs.Paper.{sequences, positions, fewer, more, macroblocks, rate, stype, lastFrame, byteAt, streamFault, fault, soundChannel}
 use Rattle.rules.specs.Paper.{soundFirst, asPlace, countBy, countSaid, vauxPlace, vauxByte, vsPack, ssybPlace, ssybByte, holdsTime, holdsGroup}
-use Rattle.rules.specs.Written.{Lent}
+use Rattle.rules.specs.Written.{Contents}
 
 -- ---- a table says which number is given
 
@@ -77,9 +77,9 @@ Flagged i n f h q = byteAt n f h q 0 i / 128 ≡ 1
 -- ---- 24, 25: the AS packs of an audio channel
 
 -- some sequence of its half
-pub record SomeRow (n c : ℕ) (Is : ℕ → ℕ → Type 0) : Type 0 where
+pub record SomeInHalf (n c : ℕ) (Is : ℕ → ℕ → Type 0) : Type 0 where
   pub r : ℕ
-  pub row : r < n / 2
+  pub rank : r < n / 2
   pub is : Is (soundChannel c) (soundFirst n c + r)
 
 -- "only the system's own counts"
@@ -106,8 +106,8 @@ pub data WrongAs (k : ℕ) (f : List ℕ) (c h q : ℕ) : Type 0 where
 pub record CountsDiffer (n : ℕ) (f : List ℕ) (c : ℕ) : Type 0 where
   pub r : ℕ
   pub r′ : ℕ
-  pub row : r < n / 2
-  pub row′ : r′ < n / 2
+  pub rank : r < n / 2
+  pub rank′ : r′ < n / 2
   pub differ : countSaid n f (soundChannel c) (soundFirst n c + r) ≢ countSaid n f (soundChannel c) (soundFirst n c + r′)
 
 -- ---- 26, 27, 32: time code and binary group
@@ -198,7 +198,7 @@ audioTable k f c room =
     else 4 if (room ≢ positions k)
     else checked k f (
     23 if Some (sequences k) (Flagged 5 (sequences k) f)
-    else 24 if SomeRow (sequences k) c (WrongAs k f c)
+    else 24 if SomeInHalf (sequences k) c (WrongAs k f c)
     else 25 if CountsDiffer (sequences k) f c
     else none)
 
@@ -218,7 +218,7 @@ timeTable k f =
     else checked k f (23 if Some (sequences k) (Flagged 7 (sequences k) f) else 26 if WrongFirst k f else 27 if Some (sequences k) (Differs k f) else none)
 
 -- 4 of the writer: "eight times the one count for sound .., 77 bytes a macroblock .., 4 each for time code and binary group"
-abbrev pub WrongLengths : ℕ → Lent → Type 0
+abbrev pub WrongLengths : ℕ → Contents → Type 0
 WrongLengths k l =
     (length (l .sound) ≢ 8 * l .count)
     ⊎ ((length (l .macroblocks) ≢ 77 * macroblocks k) ⊎ ((length (l .timeCode) ≢ 4) ⊎ (length (l .binaryGroup) ≢ 4)))
@@ -229,7 +229,7 @@ WrongTime k time =
     ((rate k ≡ 1) × (getD time 0 0 / 64 % 2 ≢ 1)) ⊎ WrongClock k (getD time 0 0) (getD time 1 0) (getD time 2 0) (getD time 3 0)
 
 -- "the writer 1-4, 31, 32"
-abbrev pub writeTable : ℕ → Lent → ℕ → Table
+abbrev pub writeTable : ℕ → Contents → ℕ → Table
 writeTable k l size =
     1 if (3 < k)
     else 2 if (size ≢ 48000 * sequences k)

@@ -11,12 +11,12 @@ difOf c = (c - 1) / 2
 abbrev pub halfAt : ℕ → ℕ
 halfAt c = (c + 1) % 2
 
--- "sample t is in sequence (t div 3 + 2(t mod 3)) mod s", which is its row in the channel's half, "plus s for even c"
-abbrev pub rowOf : ℕ → ℕ → ℕ
-rowOf s t = (t / 3 + 2 * (t % 3)) % s
+-- "sample t is in sequence (t div 3 + 2(t mod 3)) mod s", which is its rank in the channel's half, "plus s for even c"
+abbrev pub rankOf : ℕ → ℕ → ℕ
+rankOf s t = (t / 3 + 2 * (t % 3)) % s
 
 abbrev pub sequenceOf : ℕ → ℕ → ℕ → ℕ
-sequenceOf s c t = s * halfAt c + rowOf s t
+sequenceOf s c t = s * halfAt c + rankOf s t
 
 -- "audio block 3(t mod 3) + (t mod 9s) div 3s"
 abbrev pub audioOf : ℕ → ℕ → ℕ
@@ -32,13 +32,13 @@ wordNumber s t = t / (9 * s)
 abbrev pub byteOf : ℕ → ℕ → ℕ
 byteOf s t = 8 + 2 * wordNumber s t
 
--- ---- back: the audio channel of sequence q of DIF channel h, its row there, and the sample at word w of audio block a of row r
+-- ---- back: the audio channel of sequence q of DIF channel h, its rank there, and the sample at word w of audio block a of rank r
 
 abbrev pub audioAt : ℕ → ℕ → ℕ → ℕ
 audioAt s h q = 2 * h + q / s + 1
 
-abbrev pub rowAt : ℕ → ℕ → ℕ
-rowAt s q = q % s
+abbrev pub rankAt : ℕ → ℕ → ℕ
+rankAt s q = q % s
 
 abbrev pub firstAt : ℕ → ℕ → ℕ → ℕ
 firstAt s r a = 3 * s * (a % 3) + 3 * ((r + 2 * s - 2 * (a / 3)) % s) + a / 3

@@ -12,28 +12,28 @@ use Rattle.rules.specs.declared.System.{System}
 use Rattle.rules.specs.Systems.{sequencesOf, isCount, macroblocksOf, inSystem, systemOf, isNoSystem, passes, frameBytes}
 use Rattle.rules.specs.TimeCode.{timePack, timeTaken}
 use Rattle.rules.specs.Samples.{allInRange}
-use Rattle.rules.specs.Written.{Lent, writtenFrame}
+use Rattle.rules.specs.Written.{Contents, writtenFrame}
 
-abbrev pub lent : ℕ → List ℤ → List ℕ → List ℕ → List ℕ → Lent
-lent count sound macroblocks time group = record { count = count; sound = sound; macroblocks = macroblocks; timeCode = time; binaryGroup = group }
+abbrev pub contentsOf : ℕ → List ℤ → List ℕ → List ℕ → List ℕ → Contents
+contentsOf count sound macroblocks time group = record { count = count; sound = sound; macroblocks = macroblocks; timeCode = time; binaryGroup = group }
 
 -- ---- the refusals in their order: "the writer 1-4, 31, 32"
 
 -- "eight times the one count for sound .., 77 bytes a macroblock .., 4 each for time code and binary group"
-abbrev pub lengthsOk : Lent → System → Bool
+abbrev pub lengthsOk : Contents → System → Bool
 lengthsOk l y =
     eqb (length (l .sound)) (8 * l .count)
     && eqb (length (l .macroblocks)) (77 * macroblocksOf y)
     && eqb (length (l .timeCode)) 4
     && eqb (length (l .binaryGroup)) 4
 
-abbrev pub countOk : Lent → System → Bool
+abbrev pub countOk : Contents → System → Bool
 countOk l y = isCount y (l .count)
 
-abbrev pub clockTaken : Lent → System → Bool
+abbrev pub clockTaken : Contents → System → Bool
 clockTaken l y = timeTaken y (timePack (l .timeCode))
 
-unfoldable pub writeNumber : ℕ → Lent → ℕ → ℕ
+unfoldable pub writeNumber : ℕ → Contents → ℕ → ℕ
 writeNumber k l size = firstOf (
     1 when isNoSystem (systemOf k)
     ∷ 2 when not (eqb size (frameBytes (systemOf k)))
@@ -45,16 +45,16 @@ writeNumber k l size = firstOf (
 
 -- ---- the frame: "A refusal .. writes nothing."
 
-unfoldable pub writeLeft : ℕ → Lent → List ℕ → List ℕ
+unfoldable pub writeLeft : ℕ → Contents → List ℕ → List ℕ
 writeLeft k l frame = pick (eqb (writeNumber k l (length frame)) 0) (inSystem frame (λ (y : System). writtenFrame y l) (systemOf k)) frame
 
 -- system k, what is lent, the frame before, the answer r, the frame after
-pub record Wrote (k : ℕ) (l : Lent) (frame : List ℕ) (r : ℕ) (frame′ : List ℕ) : Type 0 where
+pub record Wrote (k : ℕ) (l : Contents) (frame : List ℕ) (r : ℕ) (frame′ : List ℕ) : Type 0 where
   pub answer : r ≡ writeNumber k l (length frame)
   pub left : frame′ ≡ writeLeft k l frame
 
 -- what the writer takes, for a frame of so many bytes
-pub record Takes (y : System) (l : Lent) (size : ℕ) : Type 0 where
+pub record Takes (y : System) (l : Contents) (size : ℕ) : Type 0 where
   pub frame : size ≡ 48000 * sequencesOf y
   pub counts : isCount y (l .count) ≡ true
   pub sounds : length (l .sound) ≡ 8 * l .count

@@ -25,8 +25,8 @@ use Rattle.rules.specs.Survey.{outsideSequences}
 use Rattle.rules.proofs.Systems.{sequences-some, sequences-le}
 use Rattle.rules.proofs.Faults.{sequence-faults-le}
 use Rattle.rules.proofs.Records.{noted-none, noted-turn}
-use Rattle.noting.specs.Asked.{nextFaults}
-use Rattle.noting.proofs.Next.{next-inside, none-outside, none-length}
+use Rattle.fault_list.specs.Asked.{nextFaults}
+use Rattle.fault_list.proofs.Next.{next-inside, none-outside, none-length}
 use Rattle.stream.specs.declared.Reading.{Reading}
 use Rattle.stream.specs.Input.{ofRate, systemFrom, nthFaults, readFaults, countedTo, Read, nothing, systemAfter, nextSystem, faultsAfter, Next, Refilled}
 

@@ -12,7 +12,7 @@ use Rattle.rules.specs.declared.Fault.{Fault}
 use Rattle.rules.specs.Systems.{sequencesOf}
 use Rattle.rules.specs.Faults.{partFaults}
 use Rattle.rules.specs.Noting.{Noted}
-use Rattle.noting.specs.Asked.{nextFaults}
+use Rattle.fault_list.specs.Asked.{nextFaults}
 use Rattle.stream.specs.declared.Reading.{Reading}
 
 -- ---- what the bytes of an input say

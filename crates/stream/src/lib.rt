@@ -79,7 +79,7 @@ fn next(r: Reading, part: &[u8], list: &mut [u32]) -> Reading
     let k = r.count / (SEQUENCE as u32);
     let h = k / n;
     let q = k % n;
-    let total = noting::survey_next(y, h, q, part, list, r.total);
+    let total = fault_list::survey_next(y, h, q, part, list, r.total);
     Reading {
         count: counted(r.count, part.len()),
         system: y,

@@ -16,8 +16,8 @@ use Rattle.rules.proofs.Systems.{sequences-le}
 use Rattle.rules.proofs.Blocks.{before-channel}
 use Rattle.rules.proofs.Faults.{parts-le, channels-le}
 use Rattle.rules.proofs.Records.{noted-turn}
-use Rattle.noting.specs.Asked.{nextFaults}
-use Rattle.noting.proofs.Next.{next-inside}
+use Rattle.fault_list.specs.Asked.{nextFaults}
+use Rattle.fault_list.proofs.Next.{next-inside}
 use Rattle.surveys.specs.Asked.{ChannelAsked}
 
 -- ---- survey_channel: sequence q of the m of a DIF channel, which starts at `at`

@@ -18,8 +18,8 @@ use Rattle.rules.specs.Noting.{Noted}
 use Rattle.rules.specs.Survey.{outsideSequences, refusal, FrameSurveyed, SequenceSurveyed}
 use Rattle.rules.proofs.Records.{noted-none}
 use Rattle.rules.proofs.Calls.{inside-means, survey-done, survey-stopped, survey-0, survey-1, survey-2, sequence-0, sequence-1, sequence-3, sequence-4}
-use Rattle.noting.specs.Asked.{tallied, nextFaults}
-use Rattle.noting.proofs.Next.{next-inside}
+use Rattle.fault_list.specs.Asked.{tallied, nextFaults}
+use Rattle.fault_list.proofs.Next.{next-inside}
 use Rattle.surveys.specs.Asked.{wholeFaults}
 
 module _ (k : ℕ) (s : SystemNumber) (es : s ≡ systemOf k) where

@@ -22,7 +22,7 @@ fn survey_channel(frame: &[u8], y: System, h: u32, from: usize, list: &mut [u32]
     let mut at = from;
     let mut q: u32 = 0;
     while q < layout::sequences(y) {
-        total = noting::survey_next(y, h, q, &frame[at..at + SEQUENCE], list, total);
+        total = fault_list::survey_next(y, h, q, &frame[at..at + SEQUENCE], list, total);
         at += SEQUENCE;
         q += 1;
     }
@@ -61,12 +61,12 @@ pub fn survey(system: u32, frame: &[u8], list: &mut [u32]) -> Survey
     ensures { λ r. ⌜ FrameSurveyed system (now (frame .entry)) (now (list .entry)) r (now (list .exit)) ⌝ }
 {
     let SystemNumber::Known(y) = layout::system_of(system) else {
-        return noting::refused(1);
+        return fault_list::refused(1);
     };
     if frame.len() != layout::frame_bytes(y) {
-        return noting::refused(2);
+        return fault_list::refused(2);
     }
     let size = list.len();
     let total = survey_all(frame, y, list);
-    noting::answered(total, size)
+    fault_list::answered(total, size)
 }

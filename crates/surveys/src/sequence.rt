@@ -15,17 +15,17 @@ pub fn survey_sequence(
     ensures { λ r. ⌜ SequenceSurveyed system channel sequence (now (part .entry)) (now (list .entry)) r (now (list .exit)) ⌝ }
 {
     let SystemNumber::Known(y) = layout::system_of(system) else {
-        return noting::refused(1);
+        return fault_list::refused(1);
     };
     let out = faults::outside(y, channel, sequence);
     let misfit = part.len() != SEQUENCE;
     if out {
-        return noting::refused(3);
+        return fault_list::refused(3);
     }
     if misfit {
-        return noting::refused(4);
+        return fault_list::refused(4);
     }
     let size = list.len();
-    let total = noting::survey_next(y, channel, sequence, part, list, 0);
-    noting::answered(total, size)
+    let total = fault_list::survey_next(y, channel, sequence, part, list, 0);
+    fault_list::answered(total, size)
 }

@@ -9,7 +9,7 @@ use borrow.Author.Tests.{eq-eqb, ne-eqb}
 use Rattle.base.specs.Calls.{ExactlyOne}
 use Rattle.base.proofs.Cases.{by-eq, by-lt}
 use Rattle.base.proofs.Picks.{pick-true, pick-false}
-use Rattle.base.proofs.Runs.{run-rows}
+use Rattle.base.proofs.Runs.{run-runs}
 use Rattle.rules.specs.declared.System.{System}
 use Rattle.rules.specs.declared.Survey.{Survey}
 use Rattle.rules.specs.Systems.{sequencesOf, rateOf, numberOfSystem}
@@ -19,7 +19,7 @@ use Rattle.rules.specs.Survey.{refusal}
 use Rattle.rules.proofs.Systems.{system-number, sequences-some, sequences-le, rate-sequences}
 use Rattle.rules.proofs.Faults.{faults-sequences}
 use Rattle.rules.proofs.Calls.{survey-0, survey-2, survey-done, survey-stopped, survey-taken}
-use Rattle.noting.specs.Asked.{tallied}
+use Rattle.fault_list.specs.Asked.{tallied}
 use Rattle.stream.specs.declared.Reading.{Reading}
 use Rattle.stream.specs.Input.{ofRate, dsfIn, systemFrom, readFaults, Read}
 use Rattle.stream.proofs.Inputs.{count-small, count-large}
@@ -78,7 +78,7 @@ frame-read y bytes e =
     let k : length bytes / 12000 ≡ n * 4 = omega arith in
     let m : 4 * n ≡ n * 4 = omega arith in
     let s : n * 4 ≤ n * 4 = omega arith in
-    rw (k, m, min-eq-left s) (run-rows (partFaults y bytes) n 4 (sequences-some y))
+    rw (k, m, min-eq-left s) (run-runs (partFaults y bytes) n 4 (sequences-some y))
 
 -- ---- the answer to a reading
 

@@ -11,7 +11,7 @@ use Rattle.rules.specs.Systems.{sequencesOf, rateOf, numberOfSystem}
 use Rattle.rules.specs.Faults.{frameFaults}
 use Rattle.rules.specs.Records.{after}
 use Rattle.rules.specs.Survey.{surveyNumber, surveyAnswer, refusal}
-use Rattle.noting.specs.Asked.{tallied}
+use Rattle.fault_list.specs.Asked.{tallied}
 use Rattle.stream.specs.declared.Reading.{Reading}
 use Rattle.stream.specs.Input.{dsfIn, Read}
 use Rattle.verdict.specs.declared.FrameLength.{FrameLength}

@@ -27,7 +27,7 @@ pub fn answer(r: Reading, size: usize) -> Survey
     let y = r.system;
     let length = length_of(y, r.count);
     match length {
-        FrameLength::Right => noting::answered(r.total, size),
-        FrameLength::Wrong => noting::refused(2),
+        FrameLength::Right => fault_list::answered(r.total, size),
+        FrameLength::Wrong => fault_list::refused(2),
     }
 }

@@ -36,15 +36,15 @@ use Rattle.rules.specs.TimeCode.{timePack, groupPack}
 use Rattle.rules.specs.Subcode.{subcodeBytes}
 use Rattle.rules.specs.Vaux.{vauxBytes}
 use Rattle.rules.specs.Picture.{slot, carriedIn}
-use Rattle.rules.specs.Written.{Lent, audioBytes, carriedBytes, videoBytes, payload, entryBlock, writtenBlock, writtenSequence, writtenChannel, writtenFrame}
-use Rattle.rules.specs.Write.{lent, writeNumber, Wrote}
+use Rattle.rules.specs.Written.{Contents, audioBytes, carriedBytes, videoBytes, payload, entryBlock, writtenBlock, writtenSequence, writtenChannel, writtenFrame}
+use Rattle.rules.specs.Write.{contentsOf, writeNumber, Wrote}
 use Rattle.rules.proofs.Systems.{sequences-le}
 use Rattle.rules.proofs.Places.{place-in-below, entry-place-in, place-for, place-for-past}
 use Rattle.rules.proofs.Written.{entry-block-length, block-entry, block-wide, sequence-wide, channel-wide}
 use Rattle.rules.proofs.Write.{write-1, taken-takes, write-stopped, write-done}
 use Rattle.blocks.specs.Fits.{numberFits, audioFits, videoFits}
-use Rattle.writer.specs.Asked.{PartAsked, Begun, RowAsked, VideosAsked, ChannelPartAsked, FrameAsked}
-use Rattle.writer.specs.Rows.{videoBlocks, rowBlocks}
+use Rattle.writer.specs.Asked.{PartAsked, Begun, BankAsked, VideosAsked, ChannelPartAsked, FrameAsked}
+use Rattle.writer.specs.Banks.{videoBlocks, bankBlocks}
 
 -- ---- two parts that are lent one after the other
 
@@ -97,8 +97,8 @@ behind-is s k p e ep ee = ap (λ (x : Entry). x .number) ee ∙ ap (λ (x : Plac
 -- ---- a sequence in stream order
 
 module _ (y : System) (h q count : ℕ) (sound : List ℤ) (macroblocks time group : List ℕ) where
-  abbrev l : Lent
-  l = lent count sound macroblocks time group
+  abbrev l : Contents
+  l = contentsOf count sound macroblocks time group
 
   -- the places up to r are written, where m bytes come back from place p on
   begun-on : (xs ys : List ℕ) (p r m : ℕ) → Begun xs y h q l p → run (writtenBlock y l h q) r ≡ run (writtenBlock y l h q) p ++ ys → length ys ≡ m → p * 80 + m ≤ 12000
@@ -174,10 +174,10 @@ module _ (y : System) (h q count : ℕ) (sound : List ℤ) (macroblocks time gro
     pub vauxes-done : Begun xs y h q l (3 + k) → k ≤ 3 → 3 ≤ k → Begun xs y h q l 6
     vauxes-done b le ge = begun-end (3 + k) 6 b (omega arith)
 
-    pub rows-done : Begun xs y h q l (6 + 16 * k) → k ≤ 9 → 9 ≤ k → Begun xs y h q l 150
-    rows-done b le ge = begun-end (6 + 16 * k) 150 b (omega arith)
+    pub banks-done : Begun xs y h q l (6 + 16 * k) → k ≤ 9 → 9 ≤ k → Begun xs y h q l 150
+    banks-done b le ge = begun-end (6 + 16 * k) 150 b (omega arith)
 
-  -- ---- the video blocks of a row
+  -- ---- the video blocks of a bank
 
   module _ (v : ℕ) where
     abbrev pub video-in : ℕ → List ℕ
@@ -201,20 +201,20 @@ module _ (y : System) (h q count : ℕ) (sound : List ℤ) (macroblocks time gro
         unfolding videoBlocks
         videos-done le ge = filled-end 80 video-in j 15 d xs ex (asked .whole .long) le ge
 
-  -- ---- a row: A(a), and the number behind it
+  -- ---- a bank: A(a), and the number behind it
 
-  module _ (a : BlockNumber) (xs : List ℕ) (asked : RowAsked xs y h q (a .0) l) where
+  module _ (a : BlockNumber) (xs : List ℕ) (asked : BankAsked xs y h q (a .0) l) where
     abbrev p : ℕ
     p = placeFor Audio a .0
 
-    row-stands : p ≡ 6 + 16 * a .0
-    row-stands = stands Audio (a .0) (placeFor Audio a) refl (asked .row)
+    bank-stands : p ≡ 6 + 16 * a .0
+    bank-stands = stands Audio (a .0) (placeFor Audio a) refl (asked .audio)
 
     -- the place j + 1 behind A(a) holds V(15a + j)
     follows : (j : ℕ) → j < 15 → entryAt (place (p + (1 + j))) ≡ block Video (15 * a .0 + j)
     follows j hj =
-        let e : p + (1 + j) ≡ placeIn Video (15 * a .0 + j) = omega (arith, row-stands) in
-        ap (λ (n : ℕ). entryAt (place n)) e ∙ entry-place-in Video (15 * a .0 + j) (omega (arith, asked .row))
+        let e : p + (1 + j) ≡ placeIn Video (15 * a .0 + j) = omega (arith, bank-stands) in
+        ap (λ (n : ℕ). entryAt (place n)) e ∙ entry-place-in Video (15 * a .0 + j) (omega (arith, asked .audio))
 
     module _ (v : BlockNumber) (ev : v ≡ entryAt (place (p + 1)) .number) where
       first-is : v .0 ≡ 15 * a .0
@@ -223,12 +223,12 @@ module _ (y : System) (h q count : ℕ) (sound : List ℤ) (macroblocks time gro
       pub videos-asked : (ws : List ℕ) → length ws ≡ 1200 → VideosAsked ws y h q (v .0) l
       videos-asked ws n = record {
         whole = record { long = n; channel = asked .whole .channel; sequence = asked .whole .sequence; lengths = asked .whole .lengths };
-        room = omega (arith, first-is, asked .row);
+        room = omega (arith, first-is, asked .audio);
       }
 
-      row-parts : rowBlocks y l h q p ≡ writtenBlock y l h q p ++ videoBlocks y l h q (v .0)
-      unfolding rowBlocks videoBlocks writtenBlock run
-      row-parts =
+      bank-parts : bankBlocks y l h q p ≡ writtenBlock y l h q p ++ videoBlocks y l h q (v .0)
+      unfolding bankBlocks videoBlocks writtenBlock run
+      bank-parts =
           let first : p + 0 ≡ p = omega arith in
           let next : (j : ℕ) → j < 15 → writtenBlock y l h q (p + (1 + j)) ≡ video-in (v .0) j =
           λ j hj. ap (entryBlock y l h q) (follows j hj ∙ ap (λ (n : ℕ). block Video (n + j)) (sym first-is)) in
@@ -239,41 +239,41 @@ module _ (y : System) (h q count : ℕ) (sound : List ℤ) (macroblocks time gro
       unfolding audioFits
       audio-fits ps n =
           let r = asked .whole in
-          rw (eq-eqb _ _ n, lt-ltb _ _ (asked .row), lt-ltb _ _ (r .channel), lt-ltb _ _ (r .sequence), r .lengths .counts, eq-eqb _ _ (r .lengths .sounds)) refl
+          rw (eq-eqb _ _ n, lt-ltb _ _ (asked .audio), lt-ltb _ _ (r .channel), lt-ltb _ _ (r .sequence), r .lengths .counts, eq-eqb _ _ (r .lengths .sounds)) refl
 
-      pub row-done : (ps zs vs : List ℕ) (i : BlockId) → length ps ≡ 80 → i ≡ idOf h q Audio (a .0)
+      pub bank-done : (ps zs vs : List ℕ) (i : BlockId) → length ps ≡ 80 → i ≡ idOf h q Audio (a .0)
           → zs ≡ pick (audioFits (length ps) y h q count (length sound) (a .0)) (idBytes i ++ audioBytes y l h q (a .0)) ps → vs ≡ videoBlocks y l h q (v .0)
-          → putMid 80 1200 (zs ++ postOf 0 80 xs) vs ≡ rowBlocks y l h q (placeFor Audio a .0)
+          → putMid 80 1200 (zs ++ postOf 0 80 xs) vs ≡ bankBlocks y l h q (placeFor Audio a .0)
       unfolding payload
-      row-done ps zs vs i n ei ez es =
-          let here : writtenBlock y l h q p ≡ idBytes (idOf h q Audio (a .0)) ++ audioBytes y l h q (a .0) = ap (writtenBlock y l h q) row-stands ∙ block-entry y l h q Audio (a .0) (asked .row) in
+      bank-done ps zs vs i n ei ez es =
+          let here : writtenBlock y l h q p ≡ idBytes (idOf h q Audio (a .0)) ++ audioBytes y l h q (a .0) = ap (writtenBlock y l h q) bank-stands ∙ block-entry y l h q Audio (a .0) (asked .audio) in
           let ea : zs ≡ writtenBlock y l h q p = written _ _ ps zs (audio-fits ps n) ez ∙ rw ei (sym here) in
-          two-parts 80 1200 zs vs xs (ap length ea ∙ block-wide y l h q p) (asked .whole .long) ∙ rw (ea, es) (sym row-parts)
+          two-parts 80 1200 zs vs xs (ap length ea ∙ block-wide y l h q p) (asked .whole .long) ∙ rw (ea, es) (sym bank-parts)
 
-  -- ---- the rows
+  -- ---- the banks
 
   module _ (xs : List ℕ) (a : ℕ) (p : Place) (ep : p ≡ placeFor Audio (record { 0 = a })) (b : Begun xs y h q l (6 + 16 * a)) (ha : a < 9) where
-    row-at : p .0 ≡ 6 + 16 * a
-    row-at = stands Audio a p ep ha
+    bank-at : p .0 ≡ 6 + 16 * a
+    bank-at = stands Audio a p ep ha
 
-    pub row-ends : p .0 * 80 + 1280 ≤ length xs
-    row-ends = omega (arith, b .whole .long, row-at)
+    pub bank-ends : p .0 * 80 + 1280 ≤ length xs
+    bank-ends = omega (arith, b .whole .long, bank-at)
 
-    pub row-asked : RowAsked (take (p .0 * 80 + 1280 - p .0 * 80) (drop (p .0 * 80) xs)) y h q a l
-    row-asked =
+    pub bank-asked : BankAsked (take (p .0 * 80 + 1280 - p .0 * 80) (drop (p .0 * 80) xs)) y h q a l
+    bank-asked =
         let w = b .whole in
-        record { whole = record { long = part-long xs (p .0 * 80) 1280 row-ends; channel = w .channel; sequence = w .sequence; lengths = w .lengths }; row = ha }
+        record { whole = record { long = part-long xs (p .0 * 80) 1280 bank-ends; channel = w .channel; sequence = w .sequence; lengths = w .lengths }; audio = ha }
 
-    pub rows-turn : (ys : List ℕ) → ys ≡ rowBlocks y l h q (placeFor Audio (record { 0 = a }) .0)
+    pub banks-turn : (ys : List ℕ) → ys ≡ bankBlocks y l h q (placeFor Audio (record { 0 = a }) .0)
         → Begun (putMid (p .0 * 80) (p .0 * 80 + 1280 - p .0 * 80) xs ys) y h q l (6 + 16 * (a + 1))
-    unfolding rowBlocks
-    rows-turn ys ey =
+    unfolding bankBlocks
+    banks-turn ys ey =
         let f : ℕ → List ℕ = writtenBlock y l h q in
         let here : ys ≡ run (λ (j : ℕ). f (p .0 + j)) 16 = ey ∙ ap (λ (x : Place). run (λ (j : ℕ). f (x .0 + j)) 16) (sym ep) in
-        let to : 6 + 16 * (a + 1) ≡ p .0 + 16 = omega (arith, row-at) in
+        let to : 6 + 16 * (a + 1) ≡ p .0 + 16 = omega (arith, bank-at) in
         let more : run f (6 + 16 * (a + 1)) ≡ run f (p .0) ++ ys = ap (run f) to ∙ run-split f (p .0) 16 ∙ ap (λ (x : List ℕ). run f (p .0) ++ x) (sym here) in
-        begun-on xs ys (p .0) (6 + 16 * (a + 1)) 1280 (subst (Begun xs y h q l) (sym row-at) b) more
-        (ap length here ∙ length-run 80 (λ (j : ℕ). f (p .0 + j)) (λ j. block-wide y l h q (p .0 + j)) 16) (omega (arith, row-at))
+        begun-on xs ys (p .0) (6 + 16 * (a + 1)) 1280 (subst (Begun xs y h q l) (sym bank-at) b) more
+        (ap length here ∙ length-run 80 (λ (j : ℕ). f (p .0 + j)) (λ j. block-wide y l h q (p .0 + j)) 16) (omega (arith, bank-at))
 
   -- ---- the sequence
 
@@ -283,7 +283,7 @@ module _ (y : System) (h q count : ℕ) (sound : List ℤ) (macroblocks time gro
 
 -- ---- a DIF channel
 
-module _ (y : System) (h q : ℕ) (l : Lent) (d xs : List ℕ) (ex : Filled 12000 (writtenSequence y l h) q d xs) where
+module _ (y : System) (h q : ℕ) (l : Contents) (d xs : List ℕ) (ex : Filled 12000 (writtenSequence y l h) q d xs) where
   pub channel-turn : (ys : List ℕ) → ys ≡ writtenSequence y l h q → Filled 12000 (writtenSequence y l h) (q + 1) d (putMid (q * 12000) (q * 12000 + 12000 - q * 12000) xs ys)
   channel-turn ys ey = filled-next 12000 (writtenSequence y l h) (sequence-wide y l h) q d xs ys ex ey
 
@@ -299,7 +299,7 @@ module _ (y : System) (q n : ℕ) (en : n ≡ sequencesOf y) (hq : q < n) where
   pub sequence-next : q + 1 ≤ sequencesOf y
   sequence-next = omega arith
 
-  pub sequence-asked : (part xs : List ℕ) (h : ℕ) (l : Lent) → ChannelPartAsked part y h l → length xs ≡ length part
+  pub sequence-asked : (part xs : List ℕ) (h : ℕ) (l : Contents) → ChannelPartAsked part y h l → length xs ≡ length part
       → PartAsked (take (q * 12000 + 12000 - q * 12000) (drop (q * 12000) xs)) 12000 y h q l
   sequence-asked part xs h l a same = record {
     long = ap length (range-part (q * 12000) 12000 xs) ∙ length-part (q * 12000) 12000 xs (omega (arith, same, a .long, end-within 12000 q (sequencesOf y) sequence-in));
@@ -310,15 +310,15 @@ module _ (y : System) (q n : ℕ) (en : n ≡ sequencesOf y) (hq : q < n) where
 
 -- ---- the frame
 
-module _ (y : System) (h n : ℕ) (en : n ≡ sequencesOf y) (l : Lent) (d xs : List ℕ) (ex : Filled (sequencesOf y * 12000) (writtenChannel y l) h d xs) where
+module _ (y : System) (h n : ℕ) (en : n ≡ sequencesOf y) (l : Contents) (d xs : List ℕ) (ex : Filled (sequencesOf y * 12000) (writtenChannel y l) h d xs) where
   pub frame-turn : (ys : List ℕ) → ys ≡ writtenChannel y l h
       → Filled (sequencesOf y * 12000) (writtenChannel y l) (h + 1) d (putMid (h * (n * 12000)) (h * (n * 12000) + n * 12000 - h * (n * 12000)) xs ys)
   frame-turn ys ey = rw en (filled-next (sequencesOf y * 12000) (writtenChannel y l) (channel-wide y l) h d xs ys ex ey)
 
-pub frame-none : (y : System) (l : Lent) (d : List ℕ) → Filled (sequencesOf y * 12000) (writtenChannel y l) 0 d d
+pub frame-none : (y : System) (l : Contents) (d : List ℕ) → Filled (sequencesOf y * 12000) (writtenChannel y l) 0 d d
 frame-none y l d = filled-none (sequencesOf y * 12000) (writtenChannel y l) d
 
-pub frame-done : (y : System) (h : ℕ) (l : Lent) (d xs : List ℕ) → Filled (sequencesOf y * 12000) (writtenChannel y l) h d xs → length d ≡ 48000 * sequencesOf y → h ≤ 4 → 4 ≤ h
+pub frame-done : (y : System) (h : ℕ) (l : Contents) (d xs : List ℕ) → Filled (sequencesOf y * 12000) (writtenChannel y l) h d xs → length d ≡ 48000 * sequencesOf y → h ≤ 4 → 4 ≤ h
     → xs ≡ writtenFrame y l
 unfolding writtenFrame
 frame-done y h l d xs ex len le ge = filled-end (sequencesOf y * 12000) (writtenChannel y l) h 4 d xs ex (omega arith) le ge
@@ -338,10 +338,10 @@ module _ (y : System) (h n : ℕ) (en : n ≡ sequencesOf y) where
     pub end-fits : Fits w64 (h * (n * 12000) + n * 12000)
     end-fits = omega (arith, size-end, sequences-le y)
 
-    pub channel-within : (frame part : List ℕ) (l : Lent) → FrameAsked frame y l → length part ≡ length frame → h * (n * 12000) + n * 12000 ≤ length part
+    pub channel-within : (frame part : List ℕ) (l : Contents) → FrameAsked frame y l → length part ≡ length frame → h * (n * 12000) + n * 12000 ≤ length part
     channel-within frame part l a same = omega (arith, size-end, a .long)
 
-    pub channel-part-asked : (frame xs : List ℕ) (l : Lent) → FrameAsked frame y l → length xs ≡ length frame
+    pub channel-part-asked : (frame xs : List ℕ) (l : Contents) → FrameAsked frame y l → length xs ≡ length frame
         → ChannelPartAsked (take (h * (n * 12000) + n * 12000 - h * (n * 12000)) (drop (h * (n * 12000)) xs)) y h l
     channel-part-asked frame xs l a same = record {
       long = ap length (range-part (h * (n * 12000)) (n * 12000) xs) ∙ length-part (h * (n * 12000)) (n * 12000) xs (channel-within frame xs l a same) ∙ ap (λ (i : ℕ). i * 12000) en;
@@ -352,20 +352,20 @@ module _ (y : System) (h n : ℕ) (en : n ≡ sequencesOf y) where
 -- ---- the call
 
 -- what is in order has the lengths that the writers ask
-pub frame-asked : (k n : ℕ) (y : System) (r : SystemNumber) (l : Lent) (frame : List ℕ) → r ≡ systemOf k → r ≡ Known y → n ≡ writeNumber k l (length frame) → n ≡ 0 → FrameAsked frame y l
+pub frame-asked : (k n : ℕ) (y : System) (r : SystemNumber) (l : Contents) (frame : List ℕ) → r ≡ systemOf k → r ≡ Known y → n ≡ writeNumber k l (length frame) → n ≡ 0 → FrameAsked frame y l
 frame-asked k n y r l frame er ey en z =
     let t = taken-takes k l (length frame) y (sym er ∙ ey) (sym en ∙ z) in
     record { long = t .frame; lengths = record { counts = t .counts; sounds = t .sounds; pictures = t .pictures } }
 
 -- a refusal, as the call leaves it
-pub number-stops : (k n : ℕ) (l : Lent) (frame : List ℕ) → n ≡ writeNumber k l (length frame) → 0 < n → Wrote k l frame n frame
+pub number-stops : (k n : ℕ) (l : Contents) (frame : List ℕ) → n ≡ writeNumber k l (length frame) → 0 < n → Wrote k l frame n frame
 number-stops k n l frame en some = write-stopped k l frame n en (λ z. omega arith)
 
-pub no-system : (k n : ℕ) (l : Lent) (frame : List ℕ) (r : SystemNumber) → r ≡ systemOf k → r ≡ NoSystem → n ≡ writeNumber k l (length frame) → Wrote k l frame n frame
+pub no-system : (k n : ℕ) (l : Contents) (frame : List ℕ) (r : SystemNumber) → r ≡ systemOf k → r ≡ NoSystem → n ≡ writeNumber k l (length frame) → Wrote k l frame n frame
 no-system k n l frame r er e en =
     let one : 1 ≡ writeNumber k l (length frame) = write-1 k l (length frame) (sym er ∙ e) in
     number-stops k n l frame en (omega arith)
 
-pub frame-left : (k n : ℕ) (y : System) (r : SystemNumber) (l : Lent) (frame frame′ : List ℕ) → r ≡ systemOf k → r ≡ Known y → n ≡ writeNumber k l (length frame) → n ≡ 0
+pub frame-left : (k n : ℕ) (y : System) (r : SystemNumber) (l : Contents) (frame frame′ : List ℕ) → r ≡ systemOf k → r ≡ Known y → n ≡ writeNumber k l (length frame) → n ≡ 0
     → frame′ ≡ writtenFrame y l → Wrote k l frame 0 frame′
 frame-left k n y r l frame frame′ er ey en z e = write-done k y l frame frame′ n (sym er ∙ ey) en z e

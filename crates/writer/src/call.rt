@@ -1,5 +1,5 @@
 // The call: a refusal, or the frame.
-ghost use Rattle.rules.specs.Write.{lent, Wrote};
+ghost use Rattle.rules.specs.Write.{contentsOf, Wrote};
 use crate::frame;
 use rules::SystemNumber;
 
@@ -13,9 +13,9 @@ pub fn write_frame(
     binary_group: &[u8],
     frame: &mut [u8],
 ) -> u32
-    ensures { λ r. ⌜ Wrote system (lent count (now (sound .entry)) (now (macroblocks .entry)) (now («time_code» .entry)) (now («binary_group» .entry))) (now (frame .entry)) r (now (frame .exit)) ⌝ }
+    ensures { λ r. ⌜ Wrote system (contentsOf count (now (sound .entry)) (now (macroblocks .entry)) (now («time_code» .entry)) (now («binary_group» .entry))) (now (frame .entry)) r (now (frame .exit)) ⌝ }
 {
-    let number = lent::refusal(
+    let number = refuse_write::refusal(
         system,
         count,
         sound,

@@ -2,7 +2,7 @@
 ghost use mathlib.Core.Path.{_≡_};
 ghost use lib.ListN.{length};
 ghost use Rattle.rules.specs.Written.{writtenChannel, writtenFrame};
-ghost use Rattle.rules.specs.Write.{lent};
+ghost use Rattle.rules.specs.Write.{contentsOf};
 ghost use Rattle.writer.specs.Asked.{ChannelPartAsked, FrameAsked};
 use crate::sequence;
 use layout::CHANNELS;
@@ -19,8 +19,8 @@ fn write_channel(
     time: &[u8],
     group: &[u8],
 )
-    requires { ⌜ ChannelPartAsked (now part) y h (lent count (now sound) (now macroblocks) (now time) (now group)) ⌝ }
-    ensures { λ _. ⌜ now (part .exit) ≡ writtenChannel y (lent count (now (sound .entry)) (now (macroblocks .entry)) (now (time .entry)) (now (group .entry))) h ⌝ }
+    requires { ⌜ ChannelPartAsked (now part) y h (contentsOf count (now sound) (now macroblocks) (now time) (now group)) ⌝ }
+    ensures { λ _. ⌜ now (part .exit) ≡ writtenChannel y (contentsOf count (now (sound .entry)) (now (macroblocks .entry)) (now (time .entry)) (now (group .entry))) h ⌝ }
 {
     let mut q: u32 = 0;
     while q < layout::sequences(y) {
@@ -50,8 +50,8 @@ pub(crate) fn fill_frame(
     time: &[u8],
     group: &[u8],
 )
-    requires { ⌜ FrameAsked (now frame) y (lent count (now sound) (now macroblocks) (now time) (now group)) ⌝ }
-    ensures { λ _. ⌜ now (frame .exit) ≡ writtenFrame y (lent count (now (sound .entry)) (now (macroblocks .entry)) (now (time .entry)) (now (group .entry))) ⌝ }
+    requires { ⌜ FrameAsked (now frame) y (contentsOf count (now sound) (now macroblocks) (now time) (now group)) ⌝ }
+    ensures { λ _. ⌜ now (frame .exit) ≡ writtenFrame y (contentsOf count (now (sound .entry)) (now (macroblocks .entry)) (now (time .entry)) (now (group .entry))) ⌝ }
 {
     let size = (layout::sequences(y) as usize) * SEQUENCE;
     let mut h: u32 = 0;

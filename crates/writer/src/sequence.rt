@@ -1,13 +1,13 @@
-// The 150 blocks of a sequence, each where the place rule has it: H0, SC0, SC1, VA0 to VA2, then nine rows of an audio block and the
+// The 150 blocks of a sequence, each where the place rule has it: H0, SC0, SC1, VA0 to VA2, then nine banks, each an audio block and the
 // fifteen video blocks behind it. So they go in stream order.
 ghost use mathlib.Core.Path.{_≡_};
 ghost use Prim.Native.Nat.{_+_};
 ghost use Rattle.rules.specs.Places.{place, entryAt, placeFor};
 ghost use Rattle.rules.specs.Ids.{idOf};
 ghost use Rattle.rules.specs.Written.{writtenSequence};
-ghost use Rattle.rules.specs.Write.{lent};
-ghost use Rattle.writer.specs.Asked.{PartAsked, Begun, RowAsked, VideosAsked};
-ghost use Rattle.writer.specs.Rows.{videoBlocks, rowBlocks};
+ghost use Rattle.rules.specs.Write.{contentsOf};
+ghost use Rattle.writer.specs.Asked.{PartAsked, Begun, BankAsked, VideosAsked};
+ghost use Rattle.writer.specs.Banks.{videoBlocks, bankBlocks};
 use layout::BLOCK;
 use rules::BlockId;
 use rules::BlockNumber;
@@ -15,8 +15,8 @@ use rules::Place;
 use rules::Section;
 use rules::System;
 
-// The bytes of a row.
-const ROW: usize = 16 * BLOCK;
+// The bytes of a bank.
+const BANK: usize = 16 * BLOCK;
 
 fn id(h: u32, q: u32, section: Section, number: BlockNumber) -> BlockId
     ensures { λ r. ⌜ r ≡ idOf h q section (number .0) ⌝ }
@@ -41,8 +41,8 @@ fn write_header(
     time: &[u8],
     group: &[u8],
 )
-    requires { ⌜ PartAsked (now part) 12000 y h q (lent count (now sound) (now macroblocks) (now time) (now group)) ⌝ }
-    ensures { λ _. ⌜ Begun (now (part .exit)) y h q (lent count (now (sound .entry)) (now (macroblocks .entry)) (now (time .entry)) (now (group .entry))) 1 ⌝ }
+    requires { ⌜ PartAsked (now part) 12000 y h q (contentsOf count (now sound) (now macroblocks) (now time) (now group)) ⌝ }
+    ensures { λ _. ⌜ Begun (now (part .exit)) y h q (contentsOf count (now (sound .entry)) (now (macroblocks .entry)) (now (time .entry)) (now (group .entry))) 1 ⌝ }
 {
     let number = BlockNumber(0);
     let p = layout::place_in(Section::Header, number);
@@ -63,8 +63,8 @@ fn write_subcodes(
     time: &[u8],
     group: &[u8],
 )
-    requires { ⌜ Begun (now part) y h q (lent count (now sound) (now macroblocks) (now time) (now group)) 1 ⌝ }
-    ensures { λ _. ⌜ Begun (now (part .exit)) y h q (lent count (now (sound .entry)) (now (macroblocks .entry)) (now (time .entry)) (now (group .entry))) 3 ⌝ }
+    requires { ⌜ Begun (now part) y h q (contentsOf count (now sound) (now macroblocks) (now time) (now group)) 1 ⌝ }
+    ensures { λ _. ⌜ Begun (now (part .exit)) y h q (contentsOf count (now (sound .entry)) (now (macroblocks .entry)) (now (time .entry)) (now (group .entry))) 3 ⌝ }
 {
     let mut k: u32 = 0;
     while k < 2 {
@@ -97,8 +97,8 @@ fn write_vauxes(
     time: &[u8],
     group: &[u8],
 )
-    requires { ⌜ Begun (now part) y h q (lent count (now sound) (now macroblocks) (now time) (now group)) 3 ⌝ }
-    ensures { λ _. ⌜ Begun (now (part .exit)) y h q (lent count (now (sound .entry)) (now (macroblocks .entry)) (now (time .entry)) (now (group .entry))) 6 ⌝ }
+    requires { ⌜ Begun (now part) y h q (contentsOf count (now sound) (now macroblocks) (now time) (now group)) 3 ⌝ }
+    ensures { λ _. ⌜ Begun (now (part .exit)) y h q (contentsOf count (now (sound .entry)) (now (macroblocks .entry)) (now (time .entry)) (now (group .entry))) 6 ⌝ }
 {
     let mut k: u32 = 0;
     while k < 3 {
@@ -130,8 +130,8 @@ fn write_videos(
     time: &[u8],
     group: &[u8],
 )
-    requires { ⌜ VideosAsked (now part) y h q (first .0) (lent count (now sound) (now macroblocks) (now time) (now group)) ⌝ }
-    ensures { λ _. ⌜ now (part .exit) ≡ videoBlocks y (lent count (now (sound .entry)) (now (macroblocks .entry)) (now (time .entry)) (now (group .entry))) h q (first .0) ⌝ }
+    requires { ⌜ VideosAsked (now part) y h q (first .0) (contentsOf count (now sound) (now macroblocks) (now time) (now group)) ⌝ }
+    ensures { λ _. ⌜ now (part .exit) ≡ videoBlocks y (contentsOf count (now (sound .entry)) (now (macroblocks .entry)) (now (time .entry)) (now (group .entry))) h q (first .0) ⌝ }
 {
     let v = first.0;
     let mut j: u32 = 0;
@@ -162,7 +162,7 @@ fn behind(a: BlockNumber) -> BlockNumber
 }
 
 // A(a) and the video blocks behind it.
-fn write_row(
+fn write_bank(
     part: &mut [u8],
     y: System,
     h: u32,
@@ -174,8 +174,8 @@ fn write_row(
     time: &[u8],
     group: &[u8],
 )
-    requires { ⌜ RowAsked (now part) y h q (a .0) (lent count (now sound) (now macroblocks) (now time) (now group)) ⌝ }
-    ensures { λ _. ⌜ now (part .exit) ≡ rowBlocks y (lent count (now (sound .entry)) (now (macroblocks .entry)) (now (time .entry)) (now (group .entry))) h q (placeFor Section.Audio a .0) ⌝ }
+    requires { ⌜ BankAsked (now part) y h q (a .0) (contentsOf count (now sound) (now macroblocks) (now time) (now group)) ⌝ }
+    ensures { λ _. ⌜ now (part .exit) ≡ bankBlocks y (contentsOf count (now (sound .entry)) (now (macroblocks .entry)) (now (time .entry)) (now (group .entry))) h q (placeFor Section.Audio a .0) ⌝ }
 {
     blocks::put_audio(
         &mut part[0..BLOCK],
@@ -191,7 +191,7 @@ fn write_row(
         a,
     );
     write_videos(
-        &mut part[BLOCK..ROW],
+        &mut part[BLOCK..BANK],
         y,
         h,
         q,
@@ -204,7 +204,7 @@ fn write_row(
     );
 }
 
-fn write_rows(
+fn write_banks(
     part: &mut [u8],
     y: System,
     h: u32,
@@ -215,16 +215,16 @@ fn write_rows(
     time: &[u8],
     group: &[u8],
 )
-    requires { ⌜ Begun (now part) y h q (lent count (now sound) (now macroblocks) (now time) (now group)) 6 ⌝ }
-    ensures { λ _. ⌜ Begun (now (part .exit)) y h q (lent count (now (sound .entry)) (now (macroblocks .entry)) (now (time .entry)) (now (group .entry))) 150 ⌝ }
+    requires { ⌜ Begun (now part) y h q (contentsOf count (now sound) (now macroblocks) (now time) (now group)) 6 ⌝ }
+    ensures { λ _. ⌜ Begun (now (part .exit)) y h q (contentsOf count (now (sound .entry)) (now (macroblocks .entry)) (now (time .entry)) (now (group .entry))) 150 ⌝ }
 {
     let mut a: u32 = 0;
     while a < 9 {
         let number = BlockNumber(a);
         let p = layout::place_in(Section::Audio, number);
         let at = p.0 as usize * BLOCK;
-        let to = at + ROW;
-        write_row(
+        let to = at + BANK;
+        write_bank(
             &mut part[at..to],
             y,
             h,
@@ -251,11 +251,11 @@ pub(crate) fn write_sequence(
     time: &[u8],
     group: &[u8],
 )
-    requires { ⌜ PartAsked (now part) 12000 y h q (lent count (now sound) (now macroblocks) (now time) (now group)) ⌝ }
-    ensures { λ _. ⌜ now (part .exit) ≡ writtenSequence y (lent count (now (sound .entry)) (now (macroblocks .entry)) (now (time .entry)) (now (group .entry))) h q ⌝ }
+    requires { ⌜ PartAsked (now part) 12000 y h q (contentsOf count (now sound) (now macroblocks) (now time) (now group)) ⌝ }
+    ensures { λ _. ⌜ now (part .exit) ≡ writtenSequence y (contentsOf count (now (sound .entry)) (now (macroblocks .entry)) (now (time .entry)) (now (group .entry))) h q ⌝ }
 {
     write_header(part, y, h, q, count, sound, macroblocks, time, group);
     write_subcodes(part, y, h, q, count, sound, macroblocks, time, group);
     write_vauxes(part, y, h, q, count, sound, macroblocks, time, group);
-    write_rows(part, y, h, q, count, sound, macroblocks, time, group);
+    write_banks(part, y, h, q, count, sound, macroblocks, time, group);
 }

@@ -4,8 +4,8 @@ use Rattle.judges.proofs.Ways.{count-way}
 use Rattle.judges.proofs.every.count_for.Statement.{statement}
 use Rattle.judges.proofs.every.count_for.Tie as tie
 
-first-row-requires : tie.Need-first-row-requires
-first-row-requires c κs = search needs
+first-in-half-requires : tie.Need-first-in-half-requires
+first-in-half-requires c κs = search needs
 
 dif-requires : tie.Need-dif-requires
 dif-requires c κs = search needs
@@ -26,7 +26,7 @@ pub count-for-spec : {M : Type 1} → statement M
 count-for-spec =
     tie.close
     (tie.spec
-    first-row-requires
+    first-in-half-requires
     dif-requires
     start-requires
     as-in-requires

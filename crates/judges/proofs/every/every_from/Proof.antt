@@ -5,7 +5,7 @@ use native.Mathlib.Omega.{arith}
 use borrow.Author.Needs.{needs}
 use Rattle.rules.specs.Check.{everyFrom}
 use Rattle.judges.specs.Tests.{testOf}
-use Rattle.judges.proofs.Turns.{row-turn, rows-done, start-holds}
+use Rattle.judges.proofs.Turns.{from-turn, from-done, start-holds}
 use Rattle.judges.proofs.every.every_from.Statement.{statement}
 use Rattle.judges.proofs.every.every_from.Tie as tie
 
@@ -37,10 +37,10 @@ loop-less : tie.Need-loop-less Inv-loop μ-loop
 loop-less c = search needs
 
 loop-again : tie.Need-loop-again Inv-loop μ-loop
-loop-again c = (search (row-turn, needs), omega arith)
+loop-again c = (search (from-turn, needs), omega arith)
 
 returns : tie.Need-returns Inv-loop μ-loop
-returns c = search (rows-done, needs)
+returns c = search (from-done, needs)
 
 pub every-from-spec : {M : Type 1} → statement M
 every-from-spec =

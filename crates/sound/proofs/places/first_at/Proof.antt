@@ -1,4 +1,4 @@
--- `sound::places::first_at` meets its contract: by the row of the sequence in its half. Assumes nothing.
+-- `sound::places::first_at` meets its contract: by the rank of the sequence in its half. Assumes nothing.
 use mathlib.Core.Path.{_≡_, sym, subst}
 use Prim.Native.Nat.{ℕ, _%_}
 use native.Mathlib.Nat.{mod-lt}
@@ -17,7 +17,7 @@ half-of : (y : System) (s : ℕ) → s ≡ halfOf y → Half s
 half-of y s e = subst Half (sym e) (half-cases y)
 
 asked : (y : System) (s q a : ℕ) → s ≡ halfOf y → First s (q % s) (a % 9)
-asked y s q a e = record { half = half-of y s e; row = mod-lt q (half-some s (half-of y s e)); audio = omega arith }
+asked y s q a e = record { half = half-of y s e; rank = mod-lt q (half-some s (half-of y s e)); audio = omega arith }
 
 first-is : (y : System) (s q a t : ℕ) → s ≡ halfOf y → t ≡ firstAt s (q % s) (a % 9) → t ≡ firstAt (halfOf y) (q % halfOf y) (a % 9)
 first-is y s q a t es et = rw (← es) et

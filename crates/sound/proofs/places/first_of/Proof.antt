@@ -8,7 +8,7 @@ use Rattle.sound.proofs.places.first_of.Statement.{statement}
 use Rattle.sound.proofs.places.first_of.Tie as tie
 
 low : (c : tie.Start) → firstAt (c .args .s) (c .args .r) (c .args .audio .0) < 9 * c .args .s
-low c = first-below (c .args .s) (c .pre .half) (c .args .r) (c .args .audio .0) (c .pre .row) (c .pre .audio)
+low c = first-below (c .args .s) (c .pre .half) (c .args .r) (c .args .audio .0) (c .pre .rank) (c .pre .audio)
 
 few : (c : tie.Start) → c .args .s ≤ 6
 few c = half-le (c .args .s) (c .pre .half)
@@ -27,7 +27,7 @@ mul-result-3 : tie.Need-mul-result-3
 mul-result-3 c = omega (arith, few c)
 
 add-result : tie.Need-add-result
-add-result c = omega (arith, c .pre .row, few c)
+add-result c = omega (arith, c .pre .rank, few c)
 
 mul-result-4 : tie.Need-mul-result-4
 mul-result-4 c = search needs

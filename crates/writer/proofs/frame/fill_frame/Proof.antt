@@ -7,13 +7,13 @@ use borrow.Author.Needs.{needs}
 use Rattle.base.proofs.Filling.{Filled}
 use Rattle.rules.specs.Systems.{sequencesOf}
 use Rattle.rules.specs.Written.{writtenChannel}
-use Rattle.rules.specs.Write.{lent}
+use Rattle.rules.specs.Write.{contentsOf}
 use Rattle.writer.proofs.Whole.{size-fits, start-fits, end-fits, channel-within, channel-part-asked, frame-none, frame-turn, frame-done}
 use Rattle.writer.proofs.frame.fill_frame.Statement.{statement}
 use Rattle.writer.proofs.frame.fill_frame.Tie as tie
 
 abbrev Inv-loop : tie.InvT-loop
-Inv-loop frame₀ y count sound macroblocks time group size h₀ frame h = Filled (sequencesOf y * 12000) (writtenChannel y (lent count sound macroblocks time group)) h frame₀ frame × (length frame ≡ length frame₀) × (h ≤ 4)
+Inv-loop frame₀ y count sound macroblocks time group size h₀ frame h = Filled (sequencesOf y * 12000) (writtenChannel y (contentsOf count sound macroblocks time group)) h frame₀ frame × (length frame ≡ length frame₀) × (h ≤ 4)
 
 abbrev μ-loop : tie.MeasureT-loop
 μ-loop frame₀ y count sound macroblocks time group size h₀ frame h = 4 - h

@@ -7,13 +7,13 @@ use borrow.Author.Needs.{needs}
 use Rattle.base.proofs.Filling.{Filled, filled-none}
 use Rattle.rules.specs.Systems.{sequencesOf}
 use Rattle.rules.specs.Written.{writtenSequence}
-use Rattle.rules.specs.Write.{lent}
+use Rattle.rules.specs.Write.{contentsOf}
 use Rattle.writer.proofs.Whole.{sequence-next, sequence-asked, channel-turn, channel-done}
 use Rattle.writer.proofs.frame.write_channel.Statement.{statement}
 use Rattle.writer.proofs.frame.write_channel.Tie as tie
 
 abbrev Inv-loop : tie.InvT-loop
-Inv-loop part₀ y h count sound macroblocks time group q₀ part q = Filled 12000 (writtenSequence y (lent count sound macroblocks time group) h) q part₀ part × (length part ≡ length part₀) × (q ≤ sequencesOf y)
+Inv-loop part₀ y h count sound macroblocks time group q₀ part q = Filled 12000 (writtenSequence y (contentsOf count sound macroblocks time group) h) q part₀ part × (length part ≡ length part₀) × (q ≤ sequencesOf y)
 
 abbrev μ-loop : tie.MeasureT-loop
 μ-loop part₀ y h count sound macroblocks time group q₀ part q = sequencesOf y - q

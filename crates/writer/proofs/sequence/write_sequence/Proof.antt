@@ -13,8 +13,8 @@ write-subcodes-requires c κs = search needs
 write-vauxes-requires : tie.Need-write-vauxes-requires
 write-vauxes-requires c κs = search needs
 
-write-rows-requires : tie.Need-write-rows-requires
-write-rows-requires c κs = search needs
+write-banks-requires : tie.Need-write-banks-requires
+write-banks-requires c κs = search needs
 
 same-length : tie.Need-same-length
 same-length c = search needs
@@ -29,6 +29,6 @@ write-sequence-spec =
     write-header-requires
     write-subcodes-requires
     write-vauxes-requires
-    write-rows-requires
+    write-banks-requires
     same-length
     returns)

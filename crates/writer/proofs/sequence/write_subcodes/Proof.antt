@@ -4,14 +4,14 @@ use Prim.Native.Nat.{_+_, _-_, _≤_}
 use native.Mathlib.Omega.{arith}
 use lib.ListN.{length}
 use borrow.Author.Needs.{needs}
-use Rattle.rules.specs.Write.{lent}
+use Rattle.rules.specs.Write.{contentsOf}
 use Rattle.writer.specs.Asked.{Begun}
 use Rattle.writer.proofs.Whole.{subcode-ends, subcodes-turn, subcodes-done}
 use Rattle.writer.proofs.sequence.write_subcodes.Statement.{statement}
 use Rattle.writer.proofs.sequence.write_subcodes.Tie as tie
 
 abbrev Inv-loop : tie.InvT-loop
-Inv-loop part₀ y h q count sound macroblocks time group k₀ part k = Begun part y h q (lent count sound macroblocks time group) (1 + k) × (length part ≡ length part₀) × (k ≤ 2)
+Inv-loop part₀ y h q count sound macroblocks time group k₀ part k = Begun part y h q (contentsOf count sound macroblocks time group) (1 + k) × (length part ≡ length part₀) × (k ≤ 2)
 
 abbrev μ-loop : tie.MeasureT-loop
 μ-loop part₀ y h q count sound macroblocks time group k₀ part k = 2 - k

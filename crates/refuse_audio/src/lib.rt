@@ -1,0 +1,54 @@
+// The audio read's refusals.
+ghost use mathlib.Core.Path.{_≡_};
+ghost use Rattle.base.specs.Calls.{firstOf};
+ghost use Rattle.rules.specs.Audio.{audioRows, audioNumber};
+use judges::Test;
+use rules::System;
+use rules::SystemNumber;
+
+// What a frame is refused for beyond the frame check: 23, 24, 25.
+fn sound_number(y: System, frame: &[u8], audio: u32) -> u32
+    ensures { λ r. ⌜ r ≡ firstOf (audioRows y (now (frame .entry)) audio) ⌝ }
+{
+    let unmarked = judges::every_sequence(y, frame, Test::Unflagged(1));
+    let kept = judges::every_in_half(y, frame, audio, Test::AsKeeps(audio));
+    let count = judges::count_for(y, frame, audio);
+    let same = judges::every_in_half(y, frame, audio, Test::CountIs(count));
+    if !unmarked {
+        return 23;
+    }
+    if !kept {
+        return 24;
+    }
+    if !same {
+        return 25;
+    }
+    0
+}
+
+// The number of an audio read into a list of so many entries: 1, 2, 3, 4, the frame check's, 23, 24, 25.
+pub fn audio_number(system: u32, frame: &[u8], audio: u32, size: usize) -> u32
+    ensures { λ r. ⌜ r ≡ audioNumber system (now (frame .entry)) audio size ⌝ }
+{
+    let SystemNumber::Known(y) = layout::system_of(system) else {
+        return 1;
+    };
+    let whole = frame.len() == layout::frame_bytes(y);
+    let channel = (0 < audio) & (audio < 9);
+    let room = size == (layout::positions(y) as usize);
+    if !whole {
+        return 2;
+    }
+    let number = refuse_check::checked(y, frame);
+    let own = sound_number(y, frame, audio);
+    if !channel {
+        return 3;
+    }
+    if !room {
+        return 4;
+    }
+    if number != 0 {
+        return number;
+    }
+    own
+}

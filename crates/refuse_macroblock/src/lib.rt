@@ -1,0 +1,41 @@
+// The macroblock read's refusals.
+ghost use mathlib.Core.Path.{_≡_};
+ghost use Rattle.base.specs.Calls.{firstOf};
+ghost use Rattle.rules.specs.Macroblock.{pictureRows, MacroblockNumbered};
+use judges::Test;
+use rules::System;
+use rules::SystemNumber;
+
+// What a frame is refused for beyond the frame check: 23.
+fn picture_number(y: System, frame: &[u8]) -> u32
+    ensures { λ r. ⌜ r ≡ firstOf (pictureRows y (now (frame .entry))) ⌝ }
+{
+    let unmarked = judges::every_sequence(y, frame, Test::Unflagged(2));
+    if !unmarked {
+        return 23;
+    }
+    0
+}
+
+// The number of a macroblock read: 1, 2, 3, the frame check's, 23.
+pub fn macroblock_number(system: u32, frame: &[u8], number: u32) -> u32
+    ensures { λ r. ⌜ MacroblockNumbered system (now (frame .entry)) number r ⌝ }
+{
+    let SystemNumber::Known(y) = layout::system_of(system) else {
+        return 1;
+    };
+    let whole = frame.len() == layout::frame_bytes(y);
+    let within = number < layout::macroblocks(y);
+    if !whole {
+        return 2;
+    }
+    let refusal = refuse_check::checked(y, frame);
+    let own = picture_number(y, frame);
+    if !within {
+        return 3;
+    }
+    if refusal != 0 {
+        return refusal;
+    }
+    own
+}

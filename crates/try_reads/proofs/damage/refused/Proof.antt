@@ -1,0 +1,48 @@
+-- `try_reads::damage::refused` is safe and ends. Assumes nothing.
+use mathlib.Core.Path.{_≡_}
+use Prim.Native.Nat.{_-_}
+use lib.ListN.{length}
+use borrow.Author.Needs.{needs}
+use Rattle.try_reads.proofs.damage.refused.Statement.{statement}
+use Rattle.try_reads.proofs.damage.refused.Tie as tie
+
+abbrev Inv-loop : tie.InvT-loop
+Inv-loop frame numbers₀ k₀ numbers k = length numbers ≡ length numbers₀
+
+abbrev μ-loop : tie.MeasureT-loop
+μ-loop frame numbers₀ k₀ numbers k = 8 - k
+
+loop-holds : tie.Need-loop-holds Inv-loop μ-loop
+loop-holds c = search needs
+
+refusal-requires : tie.Need-refusal-requires Inv-loop μ-loop
+refusal-requires c κs = search needs
+
+add-k : tie.Need-add-k Inv-loop μ-loop
+add-k c = search needs
+
+loop-less : tie.Need-loop-less Inv-loop μ-loop
+loop-less c = search needs
+
+loop-again : tie.Need-loop-again Inv-loop μ-loop
+loop-again c = search needs
+
+same-length : tie.Need-same-length Inv-loop μ-loop
+same-length c = search needs
+
+returns : tie.Need-returns Inv-loop μ-loop
+returns c = search needs
+
+pub refused-spec : {M : Type 1} → statement M
+refused-spec =
+    tie.close
+    (tie.spec
+    Inv-loop
+    μ-loop
+    loop-holds
+    refusal-requires
+    add-k
+    loop-less
+    loop-again
+    same-length
+    returns)
