@@ -5,7 +5,7 @@ use strict;
 use warnings;
 
 my $exports = 'crates/dv100/src/lib.rt';
-my $structs = 'crates/rules/src/lib.rt';
+my $structs = 'crates/paper/src/lib.rt';
 my $header = 'include/dv100.h';
 
 # Rattle's types as C's; a slice is a pointer and its length

@@ -9,8 +9,8 @@ use lib.ListN.{length}
 use borrow.Author.Tests.{eq-eqb, ne-eqb, eqb-true, ltb-true}
 use Rattle.base.specs.Pick.{pick}
 use Rattle.base.proofs.Picks.{pick-true, pick-false, both-held}
-use Rattle.rules.specs.declared.System.{System}
-use Rattle.rules.specs.Systems.{sequencesOf, isCount, macroblocksOf}
+use Rattle.paper.specs.declared.System.{System}
+use Rattle.rules_format.specs.Systems.{sequencesOf, isCount, macroblocksOf}
 use Rattle.blocks.specs.Asked.{NumberAsked, AudioAsked, VideoAsked}
 use Rattle.blocks.specs.Fits.{numberFits, audioFits, videoFits}
 

@@ -21,30 +21,31 @@ use Rattle.base.proofs.Picks.{pick-true, pick-false, pick-either}
 use Rattle.base.proofs.Runs.{run-same, end-within, tab-part}
 use Rattle.base.proofs.Filling.{Filled, filled-next, filled-end}
 use Rattle.base.proofs.Parts.{length-part, range-part}
-use Rattle.rules.specs.declared.System.{System}
-use Rattle.rules.specs.declared.BlockId.{BlockId}
-use Rattle.rules.specs.declared.Pack.{Pack}
-use Rattle.rules.specs.declared.SubcodePack.{SubcodePack}
-use Rattle.rules.specs.declared.Carried.{Carried}
-use Rattle.rules.specs.declared.Carried.the-variants.{Macroblock, Nothing}
-use Rattle.rules.specs.Systems.{halfOf}
-use Rattle.rules.specs.Ids.{idBytes}
-use Rattle.rules.specs.Packs.{packBytes, packOf}
-use Rattle.rules.specs.Header.{rateByte, headerBytes}
-use Rattle.rules.specs.TimeCode.{timePack, groupPack}
-use Rattle.rules.specs.Subcode.{kindOf, subcodePack, frByte, ssyb, ssybs, subcodeBytes}
-use Rattle.rules.specs.Vaux.{vauxPack, vauxPacks, vauxBytes}
-use Rattle.rules.specs.Aaux.{aauxPack}
-use Rattle.rules.specs.Samples.{wordFor, bytesOf}
-use Rattle.rules.specs.Sound.{audioAt, rankAt, firstAt}
-use Rattle.rules.specs.Picture.{slot, carriedIn}
-use Rattle.rules.specs.Written.{Contents, storedWord, wordBytes, audioBytes, carriedBytes}
-use Rattle.rules.specs.Write.{contentsOf}
-use Rattle.rules.proofs.Systems.{half-cases, half-twice, count-below, positions-le, count-turns}
-use Rattle.rules.proofs.Samples.{word-below}
-use Rattle.rules.proofs.Sound.{Half, half-some, half-le, first-below, audio-within}
-use Rattle.rules.proofs.Picture.{carried-lies}
-use Rattle.rules.proofs.Subcode.{ssyb-length}
+use Rattle.paper.specs.declared.System.{System}
+use Rattle.paper.specs.declared.BlockId.{BlockId}
+use Rattle.paper.specs.declared.Pack.{Pack}
+use Rattle.paper.specs.declared.SubcodePack.{SubcodePack}
+use Rattle.paper.specs.declared.Carried.{Carried}
+use Rattle.paper.specs.declared.Carried.the-variants.{Macroblock, Nothing}
+use Rattle.rules_format.specs.Systems.{halfOf}
+use Rattle.rules_format.specs.Ids.{idBytes}
+use Rattle.rules_packs.specs.Packs.{packBytes, packOf}
+use Rattle.rules_packs.specs.Header.{rateByte, headerBytes}
+use Rattle.rules_packs.specs.TimeCode.{timePack, groupPack}
+use Rattle.rules_packs.specs.Subcode.{kindOf, subcodePack, frByte, ssyb, ssybs, subcodeBytes}
+use Rattle.rules_packs.specs.Vaux.{vauxPack, vauxPacks, vauxBytes}
+use Rattle.rules_packs.specs.Aaux.{aauxPack}
+use Rattle.rules_format.specs.Samples.{wordFor, bytesOf}
+use Rattle.rules_format.specs.Sound.{audioAt, rankAt, firstAt}
+use Rattle.rules_picture.specs.Picture.{slot, carriedIn}
+use Rattle.promises.specs.Contents.{Contents}
+use Rattle.rules_writes.specs.Written.{storedWord, wordBytes, audioBytes, carriedBytes}
+use Rattle.rules_writes.specs.Write.{contentsOf}
+use Rattle.rules_format.proofs.Systems.{half-cases, half-twice, count-below, positions-le, count-turns}
+use Rattle.rules_format.proofs.Samples.{word-below}
+use Rattle.rules_format.proofs.Sound.{Half, half-some, half-le, first-below, audio-within}
+use Rattle.rules_picture.proofs.Picture.{carried-lies}
+use Rattle.rules_packs.proofs.Subcode.{ssyb-length}
 use Rattle.blocks.specs.Asked.{ChannelAsked, SamplesAsked, WordsAsked, AudioAsked, VideoAsked}
 use Rattle.blocks.specs.Words.{samplesOf, sampleWord, wordPair}
 

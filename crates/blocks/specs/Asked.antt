@@ -6,8 +6,8 @@ use mathlib.Core.Logic.{_⊎_}
 use Prim.Native.Nat.{ℕ, _*_, _≤_, _<_}
 use lib.IntN.{ℤ}
 use lib.ListN.{length}
-use Rattle.rules.specs.declared.System.{System}
-use Rattle.rules.specs.Systems.{sequencesOf, isCount, macroblocksOf}
+use Rattle.paper.specs.declared.System.{System}
+use Rattle.rules_format.specs.Systems.{sequencesOf, isCount, macroblocksOf}
 
 pub record WordAsked (part : List ℕ) (word : ℕ) : Type 0 where
   pub long : length part ≡ 2

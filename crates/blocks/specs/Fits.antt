@@ -2,8 +2,8 @@
 use mathlib.Core.Bool.{Bool, _&&_}
 use Prim.Native.Nat.{ℕ, _*_}
 use lib.Dec.{eqb, ltb}
-use Rattle.rules.specs.declared.System.{System}
-use Rattle.rules.specs.Systems.{sequencesOf, isCount, macroblocksOf}
+use Rattle.paper.specs.declared.System.{System}
+use Rattle.rules_format.specs.Systems.{sequencesOf, isCount, macroblocksOf}
 
 -- a part of so many bytes is a block, and its number below that of its section's blocks
 abbrev pub numberFits : ℕ → ℕ → ℕ → Bool

@@ -5,7 +5,7 @@ use lib.Dec.{ltb}
 use lib.IntN.{ℤ, pos}
 use lib.ListN.{length, getD, take, drop}
 use Rattle.base.specs.Pick.{pick}
-use Rattle.rules.specs.Samples.{wordFor, bytesOf}
+use Rattle.rules_format.specs.Samples.{wordFor, bytesOf}
 
 -- the samples of audio channel c; sound is lent channel after channel
 unfoldable pub samplesOf : List ℤ → ℕ → ℕ → List ℤ

@@ -5,20 +5,20 @@ ghost use Prim.Native.Nat.{_+_, _*_, _<_};
 ghost use lib.ListN.{length};
 ghost use Rattle.base.specs.Pick.{pick};
 ghost use Rattle.base.specs.Run.{run};
-ghost use Rattle.rules.specs.Systems.{halfOf};
-ghost use Rattle.rules.specs.Ids.{idBytes};
-ghost use Rattle.rules.specs.Sound.{audioAt};
-ghost use Rattle.rules.specs.Written.{audioBytes};
-ghost use Rattle.rules.specs.Write.{contentsOf};
+ghost use Rattle.rules_format.specs.Systems.{halfOf};
+ghost use Rattle.rules_format.specs.Ids.{idBytes};
+ghost use Rattle.rules_format.specs.Sound.{audioAt};
+ghost use Rattle.rules_writes.specs.Written.{audioBytes};
+ghost use Rattle.rules_writes.specs.Write.{contentsOf};
 ghost use Rattle.blocks.specs.Asked.{WordsAsked, ChannelAsked, SamplesAsked, AudioAsked};
 ghost use Rattle.blocks.specs.Fits.{audioFits};
 ghost use Rattle.blocks.specs.Words.{sampleWord, wordPair, samplesOf};
 use crate::parts;
 use layout::BLOCK;
 use layout::CHANNELS;
-use rules::BlockId;
-use rules::BlockNumber;
-use rules::System;
+use paper::BlockId;
+use paper::BlockNumber;
+use paper::System;
 
 // The word of sample t of an audio channel; 0 from the count on.
 fn last_word(samples: &[i32], t: usize) -> u32

@@ -4,12 +4,12 @@ ghost use mathlib.Core.List.{_++_};
 ghost use lib.Dec.{eqb};
 ghost use lib.ListN.{length};
 ghost use Rattle.base.specs.Pick.{pick};
-ghost use Rattle.rules.specs.Ids.{idBytes};
-ghost use Rattle.rules.specs.Header.{rateByte, headerBytes};
+ghost use Rattle.rules_format.specs.Ids.{idBytes};
+ghost use Rattle.rules_packs.specs.Header.{rateByte, headerBytes};
 use crate::parts;
 use layout::BLOCK;
-use rules::BlockId;
-use rules::System;
+use paper::BlockId;
+use paper::System;
 
 // Byte 3: DSF, bit 6 zero, and ones.
 fn rate_byte(y: System) -> u8

@@ -3,12 +3,12 @@ ghost use mathlib.Core.Path.{_≡_};
 ghost use mathlib.Core.List.{[], _∷_};
 ghost use Prim.Native.Nat.{_<_};
 ghost use lib.ListN.{length};
-ghost use Rattle.rules.specs.Ids.{idBytes};
-ghost use Rattle.rules.specs.Packs.{packBytes};
-ghost use Rattle.rules.specs.Samples.{bytesOf};
+ghost use Rattle.rules_format.specs.Ids.{idBytes};
+ghost use Rattle.rules_packs.specs.Packs.{packBytes};
+ghost use Rattle.rules_format.specs.Samples.{bytesOf};
 ghost use Rattle.blocks.specs.Asked.{WordAsked};
-use rules::BlockId;
-use rules::Pack;
+use paper::BlockId;
+use paper::Pack;
 
 pub(crate) fn put_three(part: &mut [u8], a: u8, b: u8, c: u8)
     requires { ⌜ length (now part) ≡ 3 ⌝ }

@@ -3,16 +3,16 @@ ghost use mathlib.Core.Path.{_≡_};
 ghost use mathlib.Core.List.{_++_};
 ghost use lib.ListN.{length};
 ghost use Rattle.base.specs.Pick.{pick};
-ghost use Rattle.rules.specs.Ids.{idBytes};
-ghost use Rattle.rules.specs.TimeCode.{timePack, groupPack};
-ghost use Rattle.rules.specs.Subcode.{frByte, ssyb, ssybs, subcodeBytes};
+ghost use Rattle.rules_format.specs.Ids.{idBytes};
+ghost use Rattle.rules_packs.specs.TimeCode.{timePack, groupPack};
+ghost use Rattle.rules_packs.specs.Subcode.{frByte, ssyb, ssybs, subcodeBytes};
 ghost use Rattle.blocks.specs.Asked.{SsybAsked, SsybsAsked, NumberAsked};
 ghost use Rattle.blocks.specs.Fits.{numberFits};
 use crate::parts;
 use layout::BLOCK;
-use rules::BlockId;
-use rules::BlockNumber;
-use rules::Pack;
+use paper::BlockId;
+use paper::BlockNumber;
+use paper::Pack;
 
 // ID0 of an SSYB: FR, and ones.
 fn fr_byte(first: bool) -> u8

@@ -3,15 +3,15 @@ ghost use mathlib.Core.Path.{_≡_};
 ghost use mathlib.Core.List.{_++_};
 ghost use lib.ListN.{length};
 ghost use Rattle.base.specs.Pick.{pick};
-ghost use Rattle.rules.specs.Ids.{idBytes};
-ghost use Rattle.rules.specs.Vaux.{vauxPacks, vauxBytes};
+ghost use Rattle.rules_format.specs.Ids.{idBytes};
+ghost use Rattle.rules_packs.specs.Vaux.{vauxPacks, vauxBytes};
 ghost use Rattle.blocks.specs.Asked.{PacksAsked, NumberAsked};
 ghost use Rattle.blocks.specs.Fits.{numberFits};
 use crate::parts;
 use layout::BLOCK;
-use rules::BlockId;
-use rules::BlockNumber;
-use rules::System;
+use paper::BlockId;
+use paper::BlockNumber;
+use paper::System;
 
 // The fifteen packs of VA(k).
 fn put_packs(part: &mut [u8], y: System, q: u32, number: BlockNumber)

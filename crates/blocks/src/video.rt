@@ -3,17 +3,17 @@ ghost use mathlib.Core.Path.{_≡_};
 ghost use mathlib.Core.List.{_++_};
 ghost use lib.ListN.{length};
 ghost use Rattle.base.specs.Pick.{pick};
-ghost use Rattle.rules.specs.Ids.{idBytes};
-ghost use Rattle.rules.specs.Picture.{slot, carriedIn};
-ghost use Rattle.rules.specs.Written.{carriedBytes};
+ghost use Rattle.rules_format.specs.Ids.{idBytes};
+ghost use Rattle.rules_picture.specs.Picture.{slot, carriedIn};
+ghost use Rattle.rules_writes.specs.Written.{carriedBytes};
 ghost use Rattle.blocks.specs.Asked.{CopyAsked, VideoAsked};
 ghost use Rattle.blocks.specs.Fits.{videoFits};
 use crate::parts;
 use layout::BLOCK;
-use rules::BlockId;
-use rules::BlockNumber;
-use rules::Carried;
-use rules::System;
+use paper::BlockId;
+use paper::BlockNumber;
+use paper::Carried;
+use paper::System;
 
 // 77 bytes from one part to another. The length is written out and the odd byte stands by itself, for the sake of the loop.
 fn copy_macroblock(part: &mut [u8], from: &[u8])

@@ -2,13 +2,13 @@
 use mathlib.Core.Path.{_≡_, refl, _∙_}
 use mathlib.Core.List.{List}
 use Prim.Native.Nat.{ℕ}
-use Rattle.rules.specs.declared.BlockId.{BlockId}
-use Rattle.rules.specs.declared.IdAnswer.{IdAnswer}
-use Rattle.rules.specs.declared.IdAnswer.the-variants.{Named, Reserved, WrongLength}
-use Rattle.rules.specs.declared.IdValues.{IdValues}
-use Rattle.rules.specs.Places.{codeOf}
-use Rattle.rules.specs.Ids.{idRefusal, idValues}
-use Rattle.rules.specs.ReadId.{IdRead, IdSaid}
+use Rattle.paper.specs.declared.BlockId.{BlockId}
+use Rattle.paper.specs.declared.IdAnswer.{IdAnswer}
+use Rattle.paper.specs.declared.IdAnswer.the-variants.{Named, Reserved, WrongLength}
+use Rattle.paper.specs.declared.IdValues.{IdValues}
+use Rattle.rules_format.specs.Places.{codeOf}
+use Rattle.rules_format.specs.Ids.{idRefusal, idValues}
+use Rattle.rules_surveys.specs.ReadId.{IdRead, IdSaid}
 
 -- ---- values
 

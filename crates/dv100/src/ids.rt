@@ -1,9 +1,9 @@
 // The answer to an ID by its values, for C, which has no enum with fields.
 ghost use mathlib.Core.Path.{_≡_};
-ghost use Rattle.rules.specs.Ids.{idRefusal, idValues};
-use rules::BlockId;
-use rules::IdAnswer;
-use rules::IdValues;
+ghost use Rattle.rules_format.specs.Ids.{idRefusal, idValues};
+use paper::BlockId;
+use paper::IdAnswer;
+use paper::IdValues;
 
 // A refusal: its number, and zeros.
 fn refused(number: u32) -> IdValues

@@ -2,21 +2,21 @@
 // an answer as a struct by value with its number first. Each call meets the contract of the library's own.
 mod ids;
 
-ghost use Rattle.rules.specs.Audio.{AudioRead};
-ghost use Rattle.rules.specs.Check.{Checked};
-ghost use Rattle.rules.specs.Macroblock.{MacroblockLies};
-ghost use Rattle.rules.specs.ReadId.{IdSaid};
-ghost use Rattle.rules.specs.Salvage.{Salvaged};
-ghost use Rattle.rules.specs.Survey.{FrameSurveyed, SequenceSurveyed};
-ghost use Rattle.rules.specs.Time.{TimeRead};
-ghost use Rattle.rules.specs.View.{ViewLies};
-ghost use Rattle.rules.specs.Write.{contentsOf, Wrote};
-use rules::AudioAnswer;
-use rules::IdValues;
-use rules::Part;
-use rules::Place;
-use rules::Survey;
-use rules::TimeAnswer;
+ghost use Rattle.rules_reads.specs.Audio.{AudioRead};
+ghost use Rattle.rules_reads.specs.Check.{Checked};
+ghost use Rattle.rules_reads.specs.Macroblock.{MacroblockLies};
+ghost use Rattle.rules_surveys.specs.ReadId.{IdSaid};
+ghost use Rattle.rules_surveys.specs.Salvage.{Salvaged};
+ghost use Rattle.rules_surveys.specs.Survey.{FrameSurveyed, SequenceSurveyed};
+ghost use Rattle.rules_reads.specs.Time.{TimeRead};
+ghost use Rattle.rules_surveys.specs.View.{ViewLies};
+ghost use Rattle.rules_writes.specs.Write.{contentsOf, Wrote};
+use paper::AudioAnswer;
+use paper::IdValues;
+use paper::Part;
+use paper::Place;
+use paper::Survey;
+use paper::TimeAnswer;
 
 // What the three bytes of a block ID name. Refusals: 4, 11.
 #[no_mangle]

@@ -13,12 +13,12 @@ use Rattle.base.specs.Run.{run}
 use Rattle.base.proofs.Parts.{range-part}
 use Rattle.base.proofs.Picks.{pick-true, both-held, both-hold}
 use Rattle.base.proofs.Runs.{run-zero, run-more}
-use Rattle.rules.specs.declared.Fault.{Fault}
-use Rattle.rules.specs.Blocks.{blockIn}
-use Rattle.rules.specs.Faults.{blockFaults, placeFaults, sequenceFaults}
-use Rattle.rules.specs.Judging.{printedPlaces, keyOf}
-use Rattle.rules.proofs.Judging.{printed-below, key-below}
-use Rattle.rules.proofs.Places.{printed-at}
+use Rattle.paper.specs.declared.Fault.{Fault}
+use Rattle.rules_format.specs.Blocks.{blockIn}
+use Rattle.rules_surveys.specs.FaultLists.{blockFaults, placeFaults, sequenceFaults}
+use Rattle.rules_format.specs.Judging.{printedPlaces, keyOf}
+use Rattle.rules_format.proofs.Judging.{printed-below, key-below}
+use Rattle.rules_format.proofs.Places.{printed-at}
 use Rattle.judged_bits.specs.Asked.{JudgedBlock}
 use Rattle.fault_list.specs.Asked.{Clean, PartAsked}
 use Rattle.fault_list.proofs.Noting.{clean-block, key-in, place-asked}

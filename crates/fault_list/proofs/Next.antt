@@ -8,16 +8,16 @@ use lib.Dec.{eqb, ltb}
 use lib.ListN.{length}
 use borrow.Author.Tests.{eq-eqb, ne-eqb, lt-leb, lt-ltb, le-ltb}
 use Rattle.base.proofs.Picks.{pick-true, pick-false}
-use Rattle.rules.specs.declared.System.{System}
-use Rattle.rules.specs.declared.SystemNumber.the-variants.{Known}
-use Rattle.rules.specs.Systems.{sequencesOf}
-use Rattle.rules.specs.Faults.{sequenceFaults}
-use Rattle.rules.specs.Noting.{Noted}
-use Rattle.rules.specs.Records.{after}
-use Rattle.rules.specs.Survey.{outsideSequences}
-use Rattle.rules.proofs.Systems.{sequences-le}
-use Rattle.rules.proofs.Records.{noted-none}
-use Rattle.rules.proofs.Calls.{inside-means}
+use Rattle.paper.specs.declared.System.{System}
+use Rattle.paper.specs.declared.SystemNumber.the-variants.{Known}
+use Rattle.rules_format.specs.Systems.{sequencesOf}
+use Rattle.rules_surveys.specs.FaultLists.{sequenceFaults}
+use Rattle.rules_surveys.specs.Noting.{Noted}
+use Rattle.rules_surveys.specs.Records.{after}
+use Rattle.rules_surveys.specs.Survey.{outsideSequences}
+use Rattle.rules_format.proofs.Systems.{sequences-le}
+use Rattle.rules_surveys.proofs.Records.{noted-none}
+use Rattle.rules_surveys.proofs.Calls.{inside-means}
 use Rattle.fault_list.specs.Asked.{PartAsked, Clean, nextFaults}
 
 module _ (y : System) (h q : ℕ) (part : List ℕ) (t : ℕ) (o : Bool) (eo : o ≡ outsideSequences (Known y) h q) where

@@ -8,19 +8,20 @@ use borrow.Author.Tests.{eq-eqb, ne-eqb}
 use Rattle.base.specs.Pick.{pick}
 use Rattle.base.specs.Run.{run}
 use Rattle.base.proofs.Parts.{range-part, length-part}
-use Rattle.rules.specs.declared.Entry.{Entry}
-use Rattle.rules.specs.declared.Place.{Place}
-use Rattle.rules.specs.declared.IdAnswer.{IdAnswer}
-use Rattle.rules.specs.Places.{place, entryAt}
-use Rattle.rules.specs.Blocks.{blockIn}
-use Rattle.rules.specs.Faults.{faultAt, faultOf, blockFaults, placeFaults, sequenceFaults}
-use Rattle.rules.specs.Judging.{printedPlaces, entryOf, keyOf}
-use Rattle.rules.specs.Ids.{blockAnswer}
-use Rattle.rules.specs.Noting.{Noted}
-use Rattle.rules.proofs.Judging.{judged-names, printed-below, key-below}
-use Rattle.rules.proofs.Places.{printed-at, entry-printed}
-use Rattle.rules.proofs.Faults.{places-le}
-use Rattle.rules.proofs.Records.{noted-none, noted-turn}
+use Rattle.paper.specs.declared.Entry.{Entry}
+use Rattle.paper.specs.declared.Place.{Place}
+use Rattle.paper.specs.declared.IdAnswer.{IdAnswer}
+use Rattle.rules_format.specs.Places.{place, entryAt}
+use Rattle.rules_format.specs.Blocks.{blockIn}
+use Rattle.rules_format.specs.Faults.{faultAt, faultOf}
+use Rattle.rules_surveys.specs.FaultLists.{blockFaults, placeFaults, sequenceFaults}
+use Rattle.rules_format.specs.Judging.{printedPlaces, entryOf, keyOf}
+use Rattle.rules_format.specs.Ids.{blockAnswer}
+use Rattle.rules_surveys.specs.Noting.{Noted}
+use Rattle.rules_format.proofs.Judging.{judged-names, printed-below, key-below}
+use Rattle.rules_format.proofs.Places.{printed-at, entry-printed}
+use Rattle.rules_surveys.proofs.FaultLists.{places-le}
+use Rattle.rules_surveys.proofs.Records.{noted-none, noted-turn}
 use Rattle.judged_bits.specs.Asked.{JudgedBlock}
 use Rattle.fault_list.specs.Asked.{InSequence, BlockAsked, PartAsked}
 

@@ -6,16 +6,16 @@ use Prim.Native.Nat.{ℕ, _/_, _≤_, _<_, min}
 use lib.Dec.{eqb, ltb}
 use lib.ListN.{length}
 use Rattle.base.specs.Pick.{pick}
-use Rattle.rules.specs.declared.System.{System}
-use Rattle.rules.specs.declared.SystemNumber.the-variants.{Known}
-use Rattle.rules.specs.declared.IdAnswer.{IdAnswer}
-use Rattle.rules.specs.declared.IdAnswer.the-variants.{Named, Reserved, WrongLength}
-use Rattle.rules.specs.declared.Fault.{Fault}
-use Rattle.rules.specs.declared.Survey.{Survey}
-use Rattle.rules.specs.Places.{place, entryAt}
-use Rattle.rules.specs.Faults.{sequenceFaults}
-use Rattle.rules.specs.Judging.{printed, keyOf}
-use Rattle.rules.specs.Survey.{outsideSequences}
+use Rattle.paper.specs.declared.System.{System}
+use Rattle.paper.specs.declared.SystemNumber.the-variants.{Known}
+use Rattle.paper.specs.declared.IdAnswer.{IdAnswer}
+use Rattle.paper.specs.declared.IdAnswer.the-variants.{Named, Reserved, WrongLength}
+use Rattle.paper.specs.declared.Fault.{Fault}
+use Rattle.paper.specs.declared.Survey.{Survey}
+use Rattle.rules_format.specs.Places.{place, entryAt}
+use Rattle.rules_surveys.specs.FaultLists.{sequenceFaults}
+use Rattle.rules_format.specs.Judging.{printed, keyOf}
+use Rattle.rules_surveys.specs.Survey.{outsideSequences}
 
 -- h is a DIF channel, and q a number that Dseq can hold
 pub record InSequence (h q : ℕ) : Type 0 where

@@ -1,10 +1,10 @@
 // Whether a sequence has no fault.
 ghost use mathlib.Core.Path.{_≡_};
-ghost use Rattle.rules.specs.Faults.{sequenceFaults};
+ghost use Rattle.rules_surveys.specs.FaultLists.{sequenceFaults};
 ghost use Rattle.fault_list.specs.Asked.{Clean, isNamed, PartAsked};
 use layout::BLOCK;
 use layout::PLACES;
-use rules::IdAnswer;
+use paper::IdAnswer;
 
 // Whether an ID names a block at all.
 fn is_named(id: IdAnswer) -> bool

@@ -2,11 +2,11 @@
 ghost use mathlib.Core.Path.{_≡_};
 ghost use mathlib.Core.List.{[], _∷_};
 ghost use Prim.Native.Nat.{_/_, _<_, min};
-ghost use Rattle.rules.specs.Noting.{Noted};
-ghost use Rattle.rules.specs.Survey.{refusal};
+ghost use Rattle.rules_surveys.specs.Noting.{Noted};
+ghost use Rattle.rules_surveys.specs.Survey.{refusal};
 ghost use Rattle.fault_list.specs.Asked.{tallied};
-use rules::Fault;
-use rules::Survey;
+use paper::Fault;
+use paper::Survey;
 
 // One record more: it is stored where there is room.
 pub(crate) fn note(list: &mut [u32], t: u32, f: Fault) -> u32

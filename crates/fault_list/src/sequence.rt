@@ -1,15 +1,15 @@
 // The survey of one sequence, block by block.
-ghost use Rattle.rules.specs.Faults.{blockFaults, sequenceFaults};
-ghost use Rattle.rules.specs.Noting.{Noted};
+ghost use Rattle.rules_surveys.specs.FaultLists.{blockFaults, sequenceFaults};
+ghost use Rattle.rules_surveys.specs.Noting.{Noted};
 ghost use Rattle.fault_list.specs.Asked.{BlockAsked, PartAsked, nextFaults};
 use crate::clean;
 use crate::list;
 use layout::BLOCK;
 use layout::PLACES;
 use layout::SEQUENCE;
-use rules::Fault;
-use rules::Place;
-use rules::System;
+use paper::Fault;
+use paper::Place;
+use paper::System;
 
 // The survey of one block. The place's entry in print is `printed`, and `key` what DIF channel and sequence add to it.
 fn survey_block(

@@ -4,10 +4,10 @@ use Prim.Native.Nat.{ℕ}
 use borrow.Author.Tests.{eq-eqb, ne-eqb}
 use Rattle.base.specs.Calls.{firstOf}
 use Rattle.base.specs.Pick.{pick}
-use Rattle.rules.specs.declared.BlockId.{BlockId}
-use Rattle.rules.specs.declared.Entry.{Entry}
-use Rattle.rules.specs.Places.{codeOf}
-use Rattle.rules.specs.Faults.{misnamed}
+use Rattle.paper.specs.declared.BlockId.{BlockId}
+use Rattle.paper.specs.declared.Entry.{Entry}
+use Rattle.rules_format.specs.Places.{codeOf}
+use Rattle.rules_format.specs.Faults.{misnamed}
 
 -- m and w are the numbers of the section that is named and of the one that is wanted
 

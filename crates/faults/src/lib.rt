@@ -1,16 +1,16 @@
 // The fault of a block where it stands, and whether a sequence is one of the system's.
 ghost use mathlib.Core.Path.{_≡_};
 ghost use lib.Dec.{eqb};
-ghost use Rattle.rules.specs.Ids.{blockAnswer};
-ghost use Rattle.rules.specs.Faults.{misnamed, faultOf, faultAt};
-ghost use Rattle.rules.specs.Survey.{outsideSequences};
+ghost use Rattle.rules_format.specs.Ids.{blockAnswer};
+ghost use Rattle.rules_format.specs.Faults.{misnamed, faultOf, faultAt};
+ghost use Rattle.rules_surveys.specs.Survey.{outsideSequences};
 use layout::CHANNELS;
-use rules::BlockId;
-use rules::Entry;
-use rules::IdAnswer;
-use rules::Place;
-use rules::System;
-use rules::SystemNumber;
+use paper::BlockId;
+use paper::Entry;
+use paper::IdAnswer;
+use paper::Place;
+use paper::System;
+use paper::SystemNumber;
 
 // The fault of a named block where an entry stands, or 0.
 fn named_fault(b: BlockId, h: u32, q: u32, e: Entry) -> u32

@@ -11,10 +11,11 @@ use Rattle.base.specs.Run.{run}
 use Rattle.base.proofs.Cases.{by-eq}
 use Rattle.base.proofs.Parts.{range-part}
 use Rattle.base.proofs.Runs.{run-more, run-split}
-use Rattle.rules.specs.declared.Fault.{Fault}
-use Rattle.rules.specs.Blocks.{blockIn}
-use Rattle.rules.specs.Faults.{faultAt, blockFaults, placeFaults, sequenceFaults}
-use Rattle.rules.specs.Check.{firstFault}
+use Rattle.paper.specs.declared.Fault.{Fault}
+use Rattle.rules_format.specs.Blocks.{blockIn}
+use Rattle.rules_format.specs.Faults.{faultAt}
+use Rattle.rules_surveys.specs.FaultLists.{blockFaults, placeFaults, sequenceFaults}
+use Rattle.rules_reads.specs.Check.{firstFault}
 use Rattle.fault_list.specs.Asked.{Clean}
 use Rattle.first_fault.specs.Asked.{FirstFaultIs}
 

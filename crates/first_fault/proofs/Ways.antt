@@ -10,11 +10,11 @@ use Rattle.base.specs.Run.{run}
 use Rattle.base.proofs.Parts.{range-part, length-part}
 use Rattle.base.proofs.Picks.{pick-true, pick-false}
 use Rattle.base.proofs.Runs.{run-same, run-runs}
-use Rattle.rules.specs.declared.System.{System}
-use Rattle.rules.specs.Systems.{sequencesOf}
-use Rattle.rules.specs.Blocks.{sequenceAt}
-use Rattle.rules.specs.Faults.{sequenceFaults, partFaults, channelFaults, frameFaults}
-use Rattle.rules.proofs.Systems.{sequences-le, sequences-some}
+use Rattle.paper.specs.declared.System.{System}
+use Rattle.rules_format.specs.Systems.{sequencesOf}
+use Rattle.rules_format.specs.Blocks.{sequenceAt}
+use Rattle.rules_surveys.specs.FaultLists.{sequenceFaults, partFaults, channelFaults, frameFaults}
+use Rattle.rules_format.proofs.Systems.{sequences-le, sequences-some}
 use Rattle.fault_list.specs.Asked.{PartAsked}
 use Rattle.first_fault.specs.Asked.{FirstFaultIs, streamFaults, firstOrLength}
 use Rattle.first_fault.proofs.Ends.{first-none, ends-not, ends-here}

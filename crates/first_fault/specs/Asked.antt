@@ -5,11 +5,11 @@ use Prim.Native.Nat.{ℕ, _*_, _/_, _%_}
 use lib.Dec.{eqb}
 use lib.ListN.{length, take, drop}
 use Rattle.base.specs.Pick.{pick}
-use Rattle.rules.specs.declared.System.{System}
-use Rattle.rules.specs.declared.Fault.{Fault}
-use Rattle.rules.specs.Systems.{sequencesOf}
-use Rattle.rules.specs.Faults.{sequenceFaults}
-use Rattle.rules.specs.Check.{firstFault, faultIn}
+use Rattle.paper.specs.declared.System.{System}
+use Rattle.paper.specs.declared.Fault.{Fault}
+use Rattle.rules_format.specs.Systems.{sequencesOf}
+use Rattle.rules_surveys.specs.FaultLists.{sequenceFaults}
+use Rattle.rules_reads.specs.Check.{firstFault, faultIn}
 
 -- fault is that of the first record; 0 where there is none
 pub record FirstFaultIs (fault : ℕ) (fs : List Fault) : Type 0 where

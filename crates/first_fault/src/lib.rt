@@ -4,12 +4,12 @@ mod sequence;
 ghost use mathlib.Core.Path.{_≡_};
 ghost use Prim.Native.Nat.{_*_};
 ghost use lib.ListN.{length};
-ghost use Rattle.rules.specs.Systems.{sequencesOf};
-ghost use Rattle.rules.specs.Faults.{frameFaults};
+ghost use Rattle.rules_format.specs.Systems.{sequencesOf};
+ghost use Rattle.rules_surveys.specs.FaultLists.{frameFaults};
 ghost use Rattle.first_fault.specs.Asked.{FirstFaultIs, firstOrLength};
 use layout::CHANNELS;
 use layout::SEQUENCE;
-use rules::System;
+use paper::System;
 
 // The first fault, sequence by sequence, or 0.
 fn first_in(frame: &[u8], y: System) -> u32

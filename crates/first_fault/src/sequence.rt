@@ -1,10 +1,10 @@
 // The first fault of one sequence.
-ghost use Rattle.rules.specs.Faults.{sequenceFaults};
+ghost use Rattle.rules_surveys.specs.FaultLists.{sequenceFaults};
 ghost use Rattle.fault_list.specs.Asked.{Clean, PartAsked};
 ghost use Rattle.first_fault.specs.Asked.{FirstFaultIs};
 use layout::BLOCK;
 use layout::PLACES;
-use rules::Place;
+use paper::Place;
 
 // Whether the judged bits of every block are its place's. No early return, so that a block costs few instructions.
 fn clean_part(part: &[u8], h: u32, q: u32) -> bool

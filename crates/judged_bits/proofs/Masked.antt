@@ -5,8 +5,8 @@ use Prim.Native.Nat.{ℕ, _≤_, _<_}
 use native.Mathlib.Omega.{arith}
 use lib.Bits.{bitAnd}
 use lib.ListN.{length}
-use Rattle.rules.specs.Judging.{judgedBits}
-use Rattle.rules.proofs.Judging.{judged-masked}
+use Rattle.rules_format.specs.Judging.{judgedBits}
+use Rattle.rules_format.proofs.Judging.{judged-masked}
 use Rattle.judged_bits.specs.Asked.{Word, Judged, JudgedBlock}
 
 judged-word : (block : List ℕ) (w : ℕ) → Word block w → Judged block (bitAnd w 0xFFFCE0)

@@ -3,7 +3,7 @@ use mathlib.Core.Path.{_≡_}
 use mathlib.Core.List.{List}
 use Prim.Native.Nat.{ℕ, _+_, _*_, _≤_, _<_}
 use lib.ListN.{length, getD}
-use Rattle.rules.specs.Judging.{judgedBits}
+use Rattle.rules_format.specs.Judging.{judgedBits}
 
 -- the first three bytes of a block are bytes
 pub record IdBytes (block : List ℕ) : Type 0 where

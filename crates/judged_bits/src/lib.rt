@@ -2,7 +2,7 @@
 ghost use mathlib.Core.Path.{_≡_};
 ghost use Prim.Native.Nat.{_%_, _≤_};
 ghost use lib.ListN.{length};
-ghost use Rattle.rules.specs.Judging.{keyOf};
+ghost use Rattle.rules_format.specs.Judging.{keyOf};
 ghost use Rattle.judged_bits.specs.Asked.{Word, JudgedBlock};
 
 // The first four bytes of a block as one number, the first lowest.

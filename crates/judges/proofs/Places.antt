@@ -7,25 +7,25 @@ use native.Mathlib.Omega.{arith}
 use lib.ListN.{take, drop, getD, length-take, List·getD-eq-default}
 use lib.Seq.{getD-take, getD-drop}
 use Rattle.base.proofs.Parts.{part-part}
-use Rattle.rules.specs.declared.System.{System}
-use Rattle.rules.specs.declared.Section.{Section}
-use Rattle.rules.specs.declared.Section.the-variants.{Header, Subcode, Vaux, Audio}
-use Rattle.rules.specs.declared.BlockNumber.{BlockNumber}
-use Rattle.rules.specs.declared.Place.{Place}
-use Rattle.rules.specs.declared.Pack.{Pack}
-use Rattle.rules.specs.Systems.{sequencesOf, halfOf}
-use Rattle.rules.specs.Places.{blocksOf, place, placeFor}
-use Rattle.rules.specs.Packs.{packIn}
-use Rattle.rules.specs.Blocks.{sequenceAt, blockIn}
-use Rattle.rules.specs.Vaux.{vsAt}
-use Rattle.rules.specs.Aaux.{asAt}
-use Rattle.rules.specs.Check.{headerIn, vsIn}
-use Rattle.rules.specs.Audio.{asIn}
-use Rattle.rules.specs.Time.{ssybIn}
-use Rattle.rules.proofs.Systems.{sequences-le, half-twice}
-use Rattle.rules.proofs.Places.{place-in-below, place-for}
-use Rattle.rules.proofs.Vaux.{vs-below}
-use Rattle.rules.proofs.Aaux.{as-below}
+use Rattle.paper.specs.declared.System.{System}
+use Rattle.paper.specs.declared.Section.{Section}
+use Rattle.paper.specs.declared.Section.the-variants.{Header, Subcode, Vaux, Audio}
+use Rattle.paper.specs.declared.BlockNumber.{BlockNumber}
+use Rattle.paper.specs.declared.Place.{Place}
+use Rattle.paper.specs.declared.Pack.{Pack}
+use Rattle.rules_format.specs.Systems.{sequencesOf, halfOf}
+use Rattle.rules_format.specs.Places.{blocksOf, place, placeFor}
+use Rattle.rules_packs.specs.Packs.{packIn}
+use Rattle.rules_format.specs.Blocks.{sequenceAt, blockIn}
+use Rattle.rules_packs.specs.Vaux.{vsAt}
+use Rattle.rules_packs.specs.Aaux.{asAt}
+use Rattle.rules_reads.specs.Check.{headerIn, vsIn}
+use Rattle.rules_reads.specs.Audio.{asIn}
+use Rattle.rules_reads.specs.Time.{ssybIn}
+use Rattle.rules_format.proofs.Systems.{sequences-le, half-twice}
+use Rattle.rules_format.proofs.Places.{place-in-below, place-for}
+use Rattle.rules_packs.proofs.Vaux.{vs-below}
+use Rattle.rules_packs.proofs.Aaux.{as-below}
 use Rattle.judges.specs.Asked.{sequenceFrom, Low, Start, PackAsked, FirstInHalf}
 
 -- ---- sequences

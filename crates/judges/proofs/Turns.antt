@@ -7,16 +7,16 @@ use native.Mathlib.Omega.{arith}
 use lib.Dec.{ltb}
 use Rattle.base.specs.Below.{below}
 use Rattle.base.proofs.Below.{below-more}
-use Rattle.rules.specs.declared.System.{System}
-use Rattle.rules.specs.declared.Pack.{Pack}
-use Rattle.rules.specs.declared.SubcodePack.{SubcodePack}
-use Rattle.rules.specs.Systems.{sequencesOf, halfOf}
-use Rattle.rules.specs.Subcode.{kindOf}
-use Rattle.rules.specs.Check.{everyFrom, everySequence}
-use Rattle.rules.specs.Audio.{everyInHalf}
-use Rattle.rules.specs.Sound.{difOf}
-use Rattle.rules.specs.Time.{ssybIn, packAgrees, subcodeAgrees}
-use Rattle.rules.proofs.Systems.{sequences-le, half-twice}
+use Rattle.paper.specs.declared.System.{System}
+use Rattle.paper.specs.declared.Pack.{Pack}
+use Rattle.paper.specs.declared.SubcodePack.{SubcodePack}
+use Rattle.rules_format.specs.Systems.{sequencesOf, halfOf}
+use Rattle.rules_packs.specs.Subcode.{kindOf}
+use Rattle.rules_reads.specs.Check.{everyFrom, everySequence}
+use Rattle.rules_reads.specs.Audio.{everyInHalf}
+use Rattle.rules_format.specs.Sound.{difOf}
+use Rattle.rules_reads.specs.Time.{ssybIn, packAgrees, subcodeAgrees}
+use Rattle.rules_format.proofs.Systems.{sequences-le, half-twice}
 use Rattle.judges.specs.declared.Test.{Test}
 use Rattle.judges.specs.Asked.{sequenceFrom, Start, FirstInHalf, SequencesAsked}
 use Rattle.judges.specs.Tests.{testOf}

@@ -8,18 +8,18 @@ use lib.ListN.{getD}
 use borrow.Author.Tests.{eq-eqb, ne-eqb}
 use Rattle.base.specs.Bytes.{Byte}
 use Rattle.base.specs.Pick.{pick}
-use Rattle.rules.specs.declared.System.{System}
-use Rattle.rules.specs.declared.Pack.{Pack}
-use Rattle.rules.specs.declared.SubcodePack.{SubcodePack}
-use Rattle.rules.specs.declared.SubcodePack.the-variants.{TimeCode, BinaryGroup, NoPack}
-use Rattle.rules.specs.Systems.{rateOf}
-use Rattle.rules.specs.Header.{flagged}
-use Rattle.rules.specs.Vaux.{vsOk}
-use Rattle.rules.specs.Aaux.{asOk, countIn}
-use Rattle.rules.specs.Check.{headerIn, vsIn, dsfAgrees, vsAgrees}
-use Rattle.rules.specs.Audio.{asIn, countFor}
-use Rattle.rules.specs.Sound.{difOf}
-use Rattle.rules.specs.Time.{ssybIn, timeFirst, groupFirst, withBit6, settled, samePack, packAgrees, subcodeAgrees}
+use Rattle.paper.specs.declared.System.{System}
+use Rattle.paper.specs.declared.Pack.{Pack}
+use Rattle.paper.specs.declared.SubcodePack.{SubcodePack}
+use Rattle.paper.specs.declared.SubcodePack.the-variants.{TimeCode, BinaryGroup, NoPack}
+use Rattle.rules_format.specs.Systems.{rateOf}
+use Rattle.rules_packs.specs.Header.{flagged}
+use Rattle.rules_packs.specs.Vaux.{vsOk}
+use Rattle.rules_packs.specs.Aaux.{asOk, countIn}
+use Rattle.rules_reads.specs.Check.{headerIn, vsIn, dsfAgrees, vsAgrees}
+use Rattle.rules_reads.specs.Audio.{asIn, countFor}
+use Rattle.rules_format.specs.Sound.{difOf}
+use Rattle.rules_reads.specs.Time.{ssybIn, timeFirst, groupFirst, withBit6, settled, samePack, packAgrees, subcodeAgrees}
 use Rattle.judges.specs.declared.Test.{Test}
 use Rattle.judges.specs.declared.Test.the-variants.{Dsf, Vs, Unflagged, AsKeeps, CountIs, Subcode}
 use Rattle.judges.specs.Asked.{sequenceFrom, Start, FirstInHalf}

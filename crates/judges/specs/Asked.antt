@@ -3,10 +3,10 @@ use mathlib.Core.Path.{_≡_}
 use mathlib.Core.List.{List}
 use Prim.Native.Nat.{ℕ, _+_, _*_, _≤_, _<_}
 use lib.ListN.{take, drop}
-use Rattle.rules.specs.declared.System.{System}
-use Rattle.rules.specs.declared.Place.{Place}
-use Rattle.rules.specs.Systems.{sequencesOf}
-use Rattle.rules.specs.Audio.{firstOfHalf}
+use Rattle.paper.specs.declared.System.{System}
+use Rattle.paper.specs.declared.Place.{Place}
+use Rattle.rules_format.specs.Systems.{sequencesOf}
+use Rattle.rules_reads.specs.Audio.{firstOfHalf}
 
 -- the sequence that starts at byte `at` of a frame
 unfoldable pub sequenceFrom : List ℕ → ℕ → List ℕ

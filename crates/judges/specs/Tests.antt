@@ -2,10 +2,10 @@
 use mathlib.Core.Bool.{Bool}
 use mathlib.Core.List.{List}
 use Prim.Native.Nat.{ℕ}
-use Rattle.rules.specs.declared.System.{System}
-use Rattle.rules.specs.Check.{dsfAgrees, vsAgrees, unflagged}
-use Rattle.rules.specs.Audio.{asKeeps, countIs}
-use Rattle.rules.specs.Time.{subcodeAgrees}
+use Rattle.paper.specs.declared.System.{System}
+use Rattle.rules_reads.specs.Check.{dsfAgrees, vsAgrees, unflagged}
+use Rattle.rules_reads.specs.Audio.{asKeeps, countIs}
+use Rattle.rules_reads.specs.Time.{subcodeAgrees}
 use Rattle.judges.specs.declared.Test.{Test}
 use Rattle.judges.specs.declared.Test.the-variants.{Dsf, Vs, Unflagged, AsKeeps, CountIs, Subcode}
 

@@ -1,15 +1,15 @@
 // What is asked of all sequences of a frame, or of an audio channel's half.
 ghost use mathlib.Core.Path.{_≡_};
-ghost use Rattle.rules.specs.Sound.{difOf};
-ghost use Rattle.rules.specs.Check.{everyFrom, everySequence};
-ghost use Rattle.rules.specs.Audio.{everyInHalf, countFor};
+ghost use Rattle.rules_format.specs.Sound.{difOf};
+ghost use Rattle.rules_reads.specs.Check.{everyFrom, everySequence};
+ghost use Rattle.rules_reads.specs.Audio.{everyInHalf, countFor};
 ghost use Rattle.judges.specs.Asked.{FirstInHalf, SequencesAsked};
 ghost use Rattle.judges.specs.Tests.{testOf};
 use crate::Test;
 use crate::read;
 use crate::sequence;
 use layout::CHANNELS;
-use rules::System;
+use paper::System;
 
 // The DIF channel of an audio channel; there is no audio channel 0, and 0 stands in.
 fn dif(c: u32) -> u32

@@ -7,7 +7,7 @@ mod subcode;
 pub use every::count_for;
 pub use every::every_in_half;
 pub use every::every_sequence;
-use rules::Pack;
+use paper::Pack;
 pub use subcode::group_first;
 pub use subcode::settled;
 pub use subcode::time_first;

@@ -2,19 +2,19 @@
 ghost use mathlib.Core.Path.{_≡_};
 ghost use Prim.Native.Nat.{_<_};
 ghost use lib.ListN.{getD};
-ghost use Rattle.rules.specs.Packs.{packIn};
-ghost use Rattle.rules.specs.Blocks.{blockIn};
-ghost use Rattle.rules.specs.Check.{headerIn, vsIn};
-ghost use Rattle.rules.specs.Audio.{asIn};
-ghost use Rattle.rules.specs.Time.{ssybIn};
+ghost use Rattle.rules_packs.specs.Packs.{packIn};
+ghost use Rattle.rules_format.specs.Blocks.{blockIn};
+ghost use Rattle.rules_reads.specs.Check.{headerIn, vsIn};
+ghost use Rattle.rules_reads.specs.Audio.{asIn};
+ghost use Rattle.rules_reads.specs.Time.{ssybIn};
 ghost use Rattle.judges.specs.Asked.{sequenceFrom, Start, Low, PackAsked, SsybAsked};
 use layout::BLOCK;
 use layout::SEQUENCE;
-use rules::BlockNumber;
-use rules::Pack;
-use rules::Place;
-use rules::Section;
-use rules::System;
+use paper::BlockNumber;
+use paper::Pack;
+use paper::Place;
+use paper::Section;
+use paper::System;
 
 // Where sequence q of DIF channel h starts.
 pub(crate) fn start(y: System, h: u32, q: u32) -> usize

@@ -1,13 +1,13 @@
 // What is asked of one sequence, its number q, from byte `at` of the frame on.
 ghost use mathlib.Core.Path.{_≡_};
-ghost use Rattle.rules.specs.Header.{flagged};
-ghost use Rattle.rules.specs.Check.{headerIn, dsfAgrees, vsAgrees};
+ghost use Rattle.rules_packs.specs.Header.{flagged};
+ghost use Rattle.rules_reads.specs.Check.{headerIn, dsfAgrees, vsAgrees};
 ghost use Rattle.judges.specs.Asked.{sequenceFrom, Low};
 ghost use Rattle.judges.specs.Tests.{testOf};
 use crate::Test;
 use crate::read;
 use crate::subcode;
-use rules::System;
+use paper::System;
 
 // The header sets TF1, TF2 or TF3, by its number.
 fn is_flagged(frame: &[u8], at: usize, k: u32) -> bool

@@ -1,11 +1,11 @@
 // The time code and the binary group of a frame, and the packs that must agree with them.
 ghost use mathlib.Core.Path.{_≡_};
-ghost use Rattle.rules.specs.Time.{timeFirst, groupFirst, settled, samePack, packAgrees, ssybIn, subcodeAgrees};
+ghost use Rattle.rules_reads.specs.Time.{timeFirst, groupFirst, settled, samePack, packAgrees, ssybIn, subcodeAgrees};
 ghost use Rattle.judges.specs.Asked.{sequenceFrom, Low, SsybAsked};
 use crate::read;
-use rules::Pack;
-use rules::SubcodePack;
-use rules::System;
+use paper::Pack;
+use paper::SubcodePack;
+use paper::System;
 
 // The time code of SSYB 3 of channel 0, sequence 0.
 pub fn time_first(y: System, frame: &[u8]) -> Pack

@@ -5,14 +5,14 @@ use native.Mathlib.Omega.{arith}
 use borrow.Author.Tests.{lt-ltb, le-ltb}
 use Rattle.base.proofs.Cases.{by-lt}
 use Rattle.base.proofs.Picks.{pick-true, pick-false}
-use Rattle.rules.specs.declared.Section.{Section}
-use Rattle.rules.specs.declared.Section.the-variants.{Header, Subcode, Vaux, Audio, Video}
-use Rattle.rules.specs.declared.BlockNumber.{BlockNumber}
-use Rattle.rules.specs.declared.Place.{Place}
-use Rattle.rules.specs.declared.Entry.{Entry}
-use Rattle.rules.specs.declared.Found.the-variants.{At, Nowhere}
-use Rattle.rules.specs.Places.{blocksOf, place, block, entryAt, placeIn, placeFor, placeOf}
-use Rattle.rules.proofs.Places.{entry-past, entry-place-in, place-for, place-for-past, place-in-below}
+use Rattle.paper.specs.declared.Section.{Section}
+use Rattle.paper.specs.declared.Section.the-variants.{Header, Subcode, Vaux, Audio, Video}
+use Rattle.paper.specs.declared.BlockNumber.{BlockNumber}
+use Rattle.paper.specs.declared.Place.{Place}
+use Rattle.paper.specs.declared.Entry.{Entry}
+use Rattle.paper.specs.declared.Found.the-variants.{At, Nowhere}
+use Rattle.rules_format.specs.Places.{blocksOf, place, block, entryAt, placeIn, placeFor, placeOf}
+use Rattle.rules_format.proofs.Places.{entry-past, entry-place-in, place-for, place-for-past, place-in-below}
 
 -- ---- entry_at
 

@@ -6,13 +6,14 @@ use native.Mathlib.Omega.{arith}
 use lib.ListN.{length, getD, take}
 use lib.Seq.{take-all}
 use Rattle.base.specs.Bytes.{Byte}
-use Rattle.rules.specs.declared.Section.{Section}
-use Rattle.rules.specs.declared.IdAnswer.{IdAnswer}
-use Rattle.rules.specs.declared.IdAnswer.the-variants.{Named, Reserved, WrongLength}
-use Rattle.rules.specs.Places.{sectionOf}
-use Rattle.rules.specs.Ids.{channelOf, namedBy, idAnswer, blockAnswer}
-use Rattle.rules.specs.ReadId.{IdRead}
-use Rattle.rules.proofs.Calls.{read-id-0, read-id-4, read-id-11, id-read}
+use Rattle.paper.specs.declared.Section.{Section}
+use Rattle.paper.specs.declared.IdAnswer.{IdAnswer}
+use Rattle.paper.specs.declared.IdAnswer.the-variants.{Named, Reserved, WrongLength}
+use Rattle.rules_format.specs.Places.{sectionOf}
+use Rattle.rules_format.specs.Ids.{channelOf, namedBy, idAnswer, blockAnswer}
+use Rattle.rules_surveys.specs.ReadId.{IdRead}
+use Rattle.rules_format.proofs.Ids.{read-id-0, read-id-4, read-id-11}
+use Rattle.rules_surveys.proofs.Calls.{id-read}
 
 pub wrong-length : (id : List ℕ) → (length id ≡ 3 → ⊥) → IdRead id WrongLength
 wrong-length id d = id-read id WrongLength (sym (read-id-4 id d))

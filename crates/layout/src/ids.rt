@@ -1,11 +1,11 @@
 // Block IDs, read and written.
 ghost use mathlib.Core.Path.{_≡_};
-ghost use Rattle.rules.specs.Ids.{channelOf, blockAnswer, idBytes};
-ghost use Rattle.rules.specs.ReadId.{IdRead};
+ghost use Rattle.rules_format.specs.Ids.{channelOf, blockAnswer, idBytes};
+ghost use Rattle.rules_surveys.specs.ReadId.{IdRead};
 use crate::places;
-use rules::BlockId;
-use rules::BlockNumber;
-use rules::IdAnswer;
+use paper::BlockId;
+use paper::BlockNumber;
+use paper::IdAnswer;
 
 // The DIF channel of FSC and FSP.
 fn channel(fsc: u32, fsp: u32) -> u32

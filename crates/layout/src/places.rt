@@ -1,13 +1,13 @@
 // The 150 places of a sequence: the printed table, and the rule that turns a place into a block of a section and back.
 ghost use mathlib.Core.Path.{_≡_};
-ghost use Rattle.rules.specs.Places.{codeOf, sectionOf, blocksOf, entryAt, placeFor, placeOf};
-ghost use Rattle.rules.specs.Judging.{printedPlaces, entryOf};
+ghost use Rattle.rules_format.specs.Places.{codeOf, sectionOf, blocksOf, entryAt, placeFor, placeOf};
+ghost use Rattle.rules_format.specs.Judging.{printedPlaces, entryOf};
 use crate::PLACES;
-use rules::BlockNumber;
-use rules::Entry;
-use rules::Found;
-use rules::Place;
-use rules::Section;
+use paper::BlockNumber;
+use paper::Entry;
+use paper::Found;
+use paper::Place;
+use paper::Section;
 
 // A section's number in an ID.
 pub fn section_code(s: Section) -> u32

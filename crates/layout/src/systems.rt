@@ -1,10 +1,10 @@
 // The four systems: each brings its own numbers.
 ghost use mathlib.Core.Path.{_≡_};
 ghost use Prim.Native.Nat.{_*_};
-ghost use Rattle.rules.specs.Systems.{sequencesOf, halfOf, positionsOf, countsOf, isCount, macroblocksOf, rateOf, stypeOf, systemOf};
-use rules::Counts;
-use rules::System;
-use rules::SystemNumber;
+ghost use Rattle.rules_format.specs.Systems.{sequencesOf, halfOf, positionsOf, countsOf, isCount, macroblocksOf, rateOf, stypeOf, systemOf};
+use paper::Counts;
+use paper::System;
+use paper::SystemNumber;
 
 // A system by its number.
 pub fn system_of(number: u32) -> SystemNumber

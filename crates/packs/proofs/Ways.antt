@@ -4,18 +4,18 @@ use mathlib.Core.Bool.{Bool, true, false, _&&_, _||_}
 use Prim.Native.Nat.{ℕ, _+_, _*_, _/_, _%_}
 use lib.Dec.{eqb, ltb}
 use Rattle.base.specs.Bytes.{Byte}
-use Rattle.rules.specs.declared.System.{System}
-use Rattle.rules.specs.declared.Pack.{Pack}
-use Rattle.rules.specs.declared.SubcodePack.the-variants.{NoPack}
-use Rattle.rules.specs.Systems.{rateOf, stypeOf, isCount}
-use Rattle.rules.specs.Packs.{onesAfter}
-use Rattle.rules.specs.Subcode.{kindOf}
-use Rattle.rules.specs.TimeCode.{digitsOk, lastFrame, clockOk, timeTaken}
-use Rattle.rules.specs.Vaux.{vsAt, vauxPack, vsOk}
-use Rattle.rules.specs.Aaux.{asAt, sizeOf, modeOf, asPack, aauxPack, countIn, asOk}
-use Rattle.rules.proofs.Subcode.{kind-none-first, kind-none-second}
-use Rattle.rules.proofs.Vaux.{vaux-vs, vaux-vsc, vaux-none}
-use Rattle.rules.proofs.Aaux.{aaux-as, aaux-asc, aaux-none}
+use Rattle.paper.specs.declared.System.{System}
+use Rattle.paper.specs.declared.Pack.{Pack}
+use Rattle.paper.specs.declared.SubcodePack.the-variants.{NoPack}
+use Rattle.rules_format.specs.Systems.{rateOf, stypeOf, isCount}
+use Rattle.rules_packs.specs.Packs.{onesAfter}
+use Rattle.rules_packs.specs.Subcode.{kindOf}
+use Rattle.rules_packs.specs.TimeCode.{digitsOk, lastFrame, clockOk, timeTaken}
+use Rattle.rules_packs.specs.Vaux.{vsAt, vauxPack, vsOk}
+use Rattle.rules_packs.specs.Aaux.{asAt, sizeOf, modeOf, asPack, aauxPack, countIn, asOk}
+use Rattle.rules_packs.proofs.Subcode.{kind-none-first, kind-none-second}
+use Rattle.rules_packs.proofs.Vaux.{vaux-vs, vaux-vsc, vaux-none}
+use Rattle.rules_packs.proofs.Aaux.{aaux-as, aaux-asc, aaux-none}
 
 -- ---- judgements, by what the callees say
 

@@ -1,8 +1,8 @@
 // The packs of the audio blocks.
 ghost use mathlib.Core.Path.{_≡_};
-ghost use Rattle.rules.specs.Aaux.{asAt, sizeOf, modeOf, asPack, aauxPack, countIn, asOk};
-use rules::Pack;
-use rules::System;
+ghost use Rattle.rules_packs.specs.Aaux.{asAt, sizeOf, modeOf, asPack, aauxPack, countIn, asOk};
+use paper::Pack;
+use paper::System;
 
 // AS is pack 3 in even sequences, 0 in odd.
 pub fn as_at(q: u32) -> u32

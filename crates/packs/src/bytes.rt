@@ -1,7 +1,7 @@
 // Packs of lent bytes.
 ghost use mathlib.Core.Path.{_≡_};
-ghost use Rattle.rules.specs.Packs.{packOf};
-use rules::Pack;
+ghost use Rattle.rules_packs.specs.Packs.{packOf};
+use paper::Pack;
 
 // A pack of a header and four bytes.
 pub fn pack_of(header: u8, bytes: &[u8]) -> Pack

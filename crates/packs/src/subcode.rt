@@ -1,8 +1,8 @@
 // What an SSYB carries, by its position.
 ghost use mathlib.Core.Path.{_≡_};
-ghost use Rattle.rules.specs.Subcode.{kindOf, subcodePack};
-use rules::Pack;
-use rules::SubcodePack;
+ghost use Rattle.rules_packs.specs.Subcode.{kindOf, subcodePack};
+use paper::Pack;
+use paper::SubcodePack;
 
 // First half: time code in 3, 5, 9, 11, binary group in 4, 10. Second half: time code in 3, 9.
 pub fn kind_of(first: bool, k: u32) -> SubcodePack

@@ -1,8 +1,8 @@
 // Time code and binary group packs, as they are judged.
 ghost use mathlib.Core.Path.{_≡_};
-ghost use Rattle.rules.specs.TimeCode.{lastFrame, clockOk, timeOk, groupOk, timeTaken};
-use rules::Pack;
-use rules::System;
+ghost use Rattle.rules_packs.specs.TimeCode.{lastFrame, clockOk, timeOk, groupOk, timeTaken};
+use paper::Pack;
+use paper::System;
 
 // Frames go to 29 or 24.
 fn last_frame(y: System) -> u8

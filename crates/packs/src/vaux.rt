@@ -1,8 +1,8 @@
 // The packs of VAUX.
 ghost use mathlib.Core.Path.{_≡_};
-ghost use Rattle.rules.specs.Vaux.{vsAt, vauxPack, vsOk};
-use rules::Pack;
-use rules::System;
+ghost use Rattle.rules_packs.specs.Vaux.{vsAt, vauxPack, vsOk};
+use paper::Pack;
+use paper::System;
 
 // VS is pack 39 in even sequences, 0 in odd.
 pub fn vs_at(q: u32) -> u32

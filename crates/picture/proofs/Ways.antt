@@ -5,13 +5,14 @@ use Prim.Native.Nat.{ℕ, _<_, _≤_, _+_, _-_, _*_, _/_, _%_}
 use borrow.Author.Tests.{lt-ltb, le-ltb, ne-eqb}
 use Rattle.base.specs.Pick.{pick}
 use Rattle.base.proofs.Picks.{pick-true, pick-false}
-use Rattle.rules.specs.declared.System.{System}
-use Rattle.rules.specs.declared.Slot.{Slot}
-use Rattle.rules.specs.declared.Carried.{Carried}
-use Rattle.rules.specs.declared.Carried.the-variants.{Macroblock, Nothing}
-use Rattle.rules.specs.declared.Carrier.{Carrier}
-use Rattle.rules.specs.declared.Carrier.the-variants.{In, NoSlot}
-use Rattle.rules.specs.Picture.{slot, stepOf, columnOf, macroblock, edgeNumber, tenCarries, elevenCarries, within, carriesOf, carriedIn, unitAt, slotAt, tenTurn, edgeSlot, tenFound, elevenFound, carrierOf}
+use Rattle.paper.specs.declared.System.{System}
+use Rattle.paper.specs.declared.Slot.{Slot}
+use Rattle.paper.specs.declared.Carried.{Carried}
+use Rattle.paper.specs.declared.Carried.the-variants.{Macroblock, Nothing}
+use Rattle.paper.specs.declared.Carrier.{Carrier}
+use Rattle.paper.specs.declared.Carrier.the-variants.{In, NoSlot}
+use Rattle.rules_picture.specs.Picture.{slot, stepOf, columnOf, macroblock, edgeNumber, tenCarries, elevenCarries, within, carriesOf, carriedIn, unitAt}
+use Rattle.rules_picture.specs.Picture.{slotAt, tenTurn, edgeSlot, tenFound, elevenFound, carrierOf}
 use Rattle.picture.specs.Ruled.{Ruled}
 
 -- ---- what a slot carries: s and c are the step and the column of v's unit, b the number

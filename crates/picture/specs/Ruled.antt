@@ -2,8 +2,8 @@
 use mathlib.Core.Path.{_≡_}
 use mathlib.Core.Bool.{Bool}
 use Rattle.base.specs.Pick.{pick}
-use Rattle.rules.specs.declared.System.{System}
-use Rattle.rules.specs.Picture.{tenCarries, elevenCarries, carriesOf, tenFound, elevenFound, carrierOf}
+use Rattle.paper.specs.declared.System.{System}
+use Rattle.rules_picture.specs.Picture.{tenCarries, elevenCarries, carriesOf, tenFound, elevenFound, carrierOf}
 
 pub record Ruled (y : System) (eleven : Bool) : Type 0 where
   pub carries : carriesOf y ≡ pick eleven elevenCarries tenCarries

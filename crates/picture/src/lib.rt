@@ -1,13 +1,14 @@
 // Picture slots: the macroblock of a slot, and the slot of a macroblock.
 ghost use mathlib.Core.Path.{_≡_};
 ghost use Prim.Native.Nat.{_<_};
-ghost use Rattle.rules.specs.Picture.{slot, stepOf, columnOf, macroblock, tenCarries, elevenCarries, carriesOf, carriedIn, unitAt, slotAt, tenFound, elevenFound, carrierOf};
+ghost use Rattle.rules_picture.specs.Picture.{slot, stepOf, columnOf, macroblock, tenCarries, elevenCarries, carriesOf, carriedIn, unitAt, slotAt, tenFound};
+ghost use Rattle.rules_picture.specs.Picture.{elevenFound, carrierOf};
 ghost use Rattle.picture.specs.Ruled.{Ruled};
-use rules::BlockNumber;
-use rules::Carried;
-use rules::Carrier;
-use rules::Slot;
-use rules::System;
+use paper::BlockNumber;
+use paper::Carried;
+use paper::Carrier;
+use paper::Slot;
+use paper::System;
 
 // The row's step and the column of unit m.
 fn step(m: u32) -> u32

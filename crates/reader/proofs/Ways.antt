@@ -13,39 +13,41 @@ use Rattle.base.specs.Run.{tab}
 use Rattle.base.proofs.Parts.{range-part}
 use Rattle.base.proofs.Picks.{pick-true, both-held, both-hold}
 use Rattle.base.proofs.Runs.{run-same}
-use Rattle.rules.specs.declared.System.{System}
-use Rattle.rules.specs.declared.SystemNumber.{SystemNumber}
-use Rattle.rules.specs.declared.SystemNumber.the-variants.{Known, NoSystem}
-use Rattle.rules.specs.declared.Section.the-variants.{Video}
-use Rattle.rules.specs.declared.BlockNumber.{BlockNumber}
-use Rattle.rules.specs.declared.Place.{Place}
-use Rattle.rules.specs.declared.Part.{Part}
-use Rattle.rules.specs.declared.Pack.{Pack}
-use Rattle.rules.specs.declared.Sample.{Sample}
-use Rattle.rules.specs.declared.Slot.{Slot}
-use Rattle.rules.specs.declared.Carried.the-variants.{Macroblock}
-use Rattle.rules.specs.declared.Carrier.{Carrier}
-use Rattle.rules.specs.declared.Carrier.the-variants.{In, NoSlot}
-use Rattle.rules.specs.declared.AudioAnswer.{AudioAnswer}
-use Rattle.rules.specs.declared.TimeAnswer.{TimeAnswer}
-use Rattle.rules.specs.Systems.{sequencesOf, positionsOf, macroblocksOf, systemOf}
-use Rattle.rules.specs.Places.{placeIn, placeFor}
-use Rattle.rules.specs.Blocks.{noPart}
-use Rattle.rules.specs.Samples.{numberOf}
-use Rattle.rules.specs.Picture.{carriedIn, carrierOf, carriedBy}
-use Rattle.rules.specs.Reading.{readSample}
-use Rattle.rules.specs.Audio.{countFor, isAudio, audioNumber, AudioRead}
-use Rattle.rules.specs.Macroblock.{macroblockNumber, slotStart, MacroblockNumbered, MacroblockRead, MacroblockLies}
-use Rattle.rules.specs.Time.{timeFirst, groupFirst, settled, timeNumber, fourBytes, timeRefused, TimeRead}
-use Rattle.rules.proofs.Systems.{sequences-le}
-use Rattle.rules.proofs.Places.{place-for}
-use Rattle.rules.proofs.Blocks.{before-channel}
-use Rattle.rules.proofs.Check.{rows-mean}
-use Rattle.rules.proofs.Reading.{salvaged-named, sound-clean}
-use Rattle.rules.proofs.Audio.{audio-1, audio-zero, audio-stopped, audio-count, audio-done}
-use Rattle.rules.proofs.Macroblock.{macroblock-1, macroblock-zero, macroblock-lies-stopped, macroblock-lies-found, macroblock-lies-within}
-use Rattle.rules.proofs.Picture.{carrier-carries, carried-inside}
-use Rattle.rules.proofs.Time.{time-1, time-stopped, time-done}
+use Rattle.paper.specs.declared.System.{System}
+use Rattle.paper.specs.declared.SystemNumber.{SystemNumber}
+use Rattle.paper.specs.declared.SystemNumber.the-variants.{Known, NoSystem}
+use Rattle.paper.specs.declared.Section.the-variants.{Video}
+use Rattle.paper.specs.declared.BlockNumber.{BlockNumber}
+use Rattle.paper.specs.declared.Place.{Place}
+use Rattle.paper.specs.declared.Part.{Part}
+use Rattle.paper.specs.declared.Pack.{Pack}
+use Rattle.paper.specs.declared.Sample.{Sample}
+use Rattle.paper.specs.declared.Slot.{Slot}
+use Rattle.paper.specs.declared.Carried.the-variants.{Macroblock}
+use Rattle.paper.specs.declared.Carrier.{Carrier}
+use Rattle.paper.specs.declared.Carrier.the-variants.{In, NoSlot}
+use Rattle.paper.specs.declared.AudioAnswer.{AudioAnswer}
+use Rattle.paper.specs.declared.TimeAnswer.{TimeAnswer}
+use Rattle.rules_format.specs.Systems.{sequencesOf, positionsOf, macroblocksOf, systemOf}
+use Rattle.rules_format.specs.Places.{placeIn, placeFor}
+use Rattle.rules_format.specs.Blocks.{noPart}
+use Rattle.rules_format.specs.Samples.{numberOf}
+use Rattle.rules_picture.specs.Picture.{carriedIn, carrierOf, carriedBy}
+use Rattle.rules_format.specs.Reading.{readSample}
+use Rattle.rules_reads.specs.Audio.{countFor, isAudio, audioNumber, AudioRead}
+use Rattle.rules_reads.specs.Macroblock.{macroblockNumber, slotStart, MacroblockNumbered, MacroblockRead, MacroblockLies}
+use Rattle.rules_reads.specs.Time.{timeFirst, groupFirst, settled, timeNumber, timeRefused, TimeRead}
+use Rattle.rules_packs.specs.Packs.{fourBytes}
+use Rattle.rules_format.proofs.Systems.{sequences-le}
+use Rattle.rules_format.proofs.Places.{place-for}
+use Rattle.rules_format.proofs.Blocks.{before-channel}
+use Rattle.rules_reads.proofs.Check.{rows-mean}
+use Rattle.rules_format.proofs.Reading.{salvaged-named}
+use Rattle.rules_reads.proofs.Reading.{sound-clean}
+use Rattle.rules_reads.proofs.Audio.{audio-1, audio-zero, audio-stopped, audio-count, audio-done}
+use Rattle.rules_reads.proofs.Macroblock.{macroblock-1, macroblock-zero, macroblock-lies-stopped, macroblock-lies-found, macroblock-lies-within}
+use Rattle.rules_picture.proofs.Picture.{carrier-carries, carried-inside}
+use Rattle.rules_reads.proofs.Time.{time-1, time-stopped, time-done}
 use Rattle.rescue.specs.Taken.{heldSample, samplesFit, samplesLeft}
 use Rattle.reader.specs.Asked.{SlotAsked, SlotStart}
 

@@ -1,12 +1,12 @@
 -- What the private functions ask and say.
 use mathlib.Core.Path.{_≡_}
 use Prim.Native.Nat.{ℕ, _+_, _*_, _≤_, _<_}
-use Rattle.rules.specs.declared.System.{System}
-use Rattle.rules.specs.declared.Section.the-variants.{Video}
-use Rattle.rules.specs.declared.BlockNumber.{BlockNumber}
-use Rattle.rules.specs.Systems.{sequencesOf}
-use Rattle.rules.specs.Places.{placeIn}
-use Rattle.rules.specs.Blocks.{startOf}
+use Rattle.paper.specs.declared.System.{System}
+use Rattle.paper.specs.declared.Section.the-variants.{Video}
+use Rattle.paper.specs.declared.BlockNumber.{BlockNumber}
+use Rattle.rules_format.specs.Systems.{sequencesOf}
+use Rattle.rules_format.specs.Places.{placeIn}
+use Rattle.rules_format.specs.Blocks.{startOf}
 
 -- video block v of sequence q of DIF channel h is one of the system's
 pub record SlotAsked (y : System) (h q : ℕ) (v : BlockNumber) : Type 0 where

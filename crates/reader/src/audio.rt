@@ -1,8 +1,8 @@
 // The audio read.
 ghost use mathlib.Core.Path.{_≡_};
-ghost use Rattle.rules.specs.Audio.{AudioRead};
-use rules::AudioAnswer;
-use rules::SystemNumber;
+ghost use Rattle.rules_reads.specs.Audio.{AudioRead};
+use paper::AudioAnswer;
+use paper::SystemNumber;
 
 // A refusal: its number, and no count.
 fn refused(number: u32) -> AudioAnswer

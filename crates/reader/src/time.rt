@@ -1,9 +1,10 @@
 // The time code read.
 ghost use mathlib.Core.Path.{_≡_};
-ghost use Rattle.rules.specs.Time.{fourBytes, timeRefused, TimeRead};
-use rules::Pack;
-use rules::SystemNumber;
-use rules::TimeAnswer;
+ghost use Rattle.rules_packs.specs.Packs.{fourBytes};
+ghost use Rattle.rules_reads.specs.Time.{timeRefused, TimeRead};
+use paper::Pack;
+use paper::SystemNumber;
+use paper::TimeAnswer;
 
 // The four bytes of a pack behind its header.
 fn four_bytes(p: Pack) -> [u8; 4]

@@ -1,14 +1,14 @@
 // The macroblock read: its number by one call, its bytes as a part of the frame by another, or where that part lies.
-ghost use Rattle.rules.specs.Macroblock.{MacroblockLies, MacroblockNumbered, MacroblockRead};
+ghost use Rattle.rules_reads.specs.Macroblock.{MacroblockLies, MacroblockNumbered, MacroblockRead};
 ghost use Rattle.reader.specs.Asked.{SlotAsked, SlotStart};
 use layout::BLOCK;
 use layout::PLACES;
-use rules::BlockNumber;
-use rules::Carrier;
-use rules::Part;
-use rules::Section;
-use rules::System;
-use rules::SystemNumber;
+use paper::BlockNumber;
+use paper::Carrier;
+use paper::Part;
+use paper::Section;
+use paper::System;
+use paper::SystemNumber;
 
 // Where the 77 bytes of video block v start, behind its ID.
 fn slot_start(y: System, h: u32, q: u32, v: BlockNumber) -> usize

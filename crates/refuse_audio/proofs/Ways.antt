@@ -7,13 +7,13 @@ use lib.Dec.{eqb}
 use lib.ListN.{length}
 use borrow.Author.Tests.{not-true, not-false}
 use Rattle.base.specs.Calls.{firstOf}
-use Rattle.rules.specs.declared.System.{System}
-use Rattle.rules.specs.declared.SystemNumber.{SystemNumber}
-use Rattle.rules.specs.declared.SystemNumber.the-variants.{Known, NoSystem}
-use Rattle.rules.specs.Systems.{sequencesOf, positionsOf, systemOf}
-use Rattle.rules.specs.Check.{everySequence, unflagged, checkRows}
-use Rattle.rules.specs.Audio.{everyInHalf, asKeeps, countIs, countFor, isAudio, audioRows, audioNumber}
-use Rattle.rules.proofs.Audio.{audio-23, audio-24, audio-25, audio-0, audio-1, audio-2, audio-3, audio-4, audio-checked, audio-rows}
+use Rattle.paper.specs.declared.System.{System}
+use Rattle.paper.specs.declared.SystemNumber.{SystemNumber}
+use Rattle.paper.specs.declared.SystemNumber.the-variants.{Known, NoSystem}
+use Rattle.rules_format.specs.Systems.{sequencesOf, positionsOf, systemOf}
+use Rattle.rules_reads.specs.Check.{everySequence, unflagged, checkRows}
+use Rattle.rules_reads.specs.Audio.{everyInHalf, asKeeps, countIs, countFor, isAudio, audioRows, audioNumber}
+use Rattle.rules_reads.proofs.Audio.{audio-23, audio-24, audio-25, audio-0, audio-1, audio-2, audio-3, audio-4, audio-checked, audio-rows}
 use Rattle.refuse_check.specs.Asked.{wholeNumber}
 use Rattle.refuse_check.proofs.Ways.{whole-number}
 

@@ -1,10 +1,10 @@
 // The audio read's refusals.
 ghost use mathlib.Core.Path.{_≡_};
 ghost use Rattle.base.specs.Calls.{firstOf};
-ghost use Rattle.rules.specs.Audio.{audioRows, audioNumber};
+ghost use Rattle.rules_reads.specs.Audio.{audioRows, audioNumber};
 use judges::Test;
-use rules::System;
-use rules::SystemNumber;
+use paper::System;
+use paper::SystemNumber;
 
 // What a frame is refused for beyond the frame check: 23, 24, 25.
 fn sound_number(y: System, frame: &[u8], audio: u32) -> u32

@@ -10,12 +10,12 @@ use borrow.Author.Tests.{eq-eqb, ne-eqb, not-true, not-false}
 use Rattle.base.specs.Calls.{firstOf}
 use Rattle.base.proofs.Cases.{by-bool}
 use Rattle.base.proofs.Picks.{pick-true, pick-false}
-use Rattle.rules.specs.declared.System.{System}
-use Rattle.rules.specs.declared.SystemNumber.{SystemNumber}
-use Rattle.rules.specs.declared.SystemNumber.the-variants.{Known, NoSystem}
-use Rattle.rules.specs.Systems.{sequencesOf, systemOf}
-use Rattle.rules.specs.Check.{everySequence, dsfAgrees, vsAgrees, faultIn, checkRows, Checked}
-use Rattle.rules.proofs.Check.{rows-fault, rows-21, rows-22, rows-0, check-1, check-2, check-rows}
+use Rattle.paper.specs.declared.System.{System}
+use Rattle.paper.specs.declared.SystemNumber.{SystemNumber}
+use Rattle.paper.specs.declared.SystemNumber.the-variants.{Known, NoSystem}
+use Rattle.rules_format.specs.Systems.{sequencesOf, systemOf}
+use Rattle.rules_reads.specs.Check.{everySequence, dsfAgrees, vsAgrees, faultIn, checkRows, Checked}
+use Rattle.rules_reads.proofs.Check.{rows-fault, rows-21, rows-22, rows-0, check-1, check-2, check-rows}
 use Rattle.first_fault.specs.Asked.{firstOrLength}
 use Rattle.refuse_check.specs.Asked.{wholeNumber}
 

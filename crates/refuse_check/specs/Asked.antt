@@ -5,9 +5,9 @@ use lib.Dec.{eqb}
 use lib.ListN.{length}
 use Rattle.base.specs.Calls.{firstOf}
 use Rattle.base.specs.Pick.{pick}
-use Rattle.rules.specs.declared.System.{System}
-use Rattle.rules.specs.Systems.{sequencesOf}
-use Rattle.rules.specs.Check.{checkRows}
+use Rattle.paper.specs.declared.System.{System}
+use Rattle.rules_format.specs.Systems.{sequencesOf}
+use Rattle.rules_reads.specs.Check.{checkRows}
 
 -- the first of its rows that holds, or 0; 2 where the frame has not its length
 unfoldable pub wholeNumber : System → List ℕ → ℕ

@@ -1,10 +1,10 @@
 // The frame check, which every strict read asks for itself.
 ghost use mathlib.Core.Path.{_≡_};
-ghost use Rattle.rules.specs.Check.{Checked};
+ghost use Rattle.rules_reads.specs.Check.{Checked};
 ghost use Rattle.refuse_check.specs.Asked.{wholeNumber};
 use judges::Test;
-use rules::System;
-use rules::SystemNumber;
+use paper::System;
+use paper::SystemNumber;
 
 // What a frame is refused for: 2, 11 to 15 of its first faulty block, 21, 22.
 pub fn checked(y: System, frame: &[u8]) -> u32

@@ -7,13 +7,13 @@ use lib.Dec.{eqb, ltb}
 use lib.ListN.{length}
 use borrow.Author.Tests.{not-true, not-false}
 use Rattle.base.specs.Calls.{firstOf}
-use Rattle.rules.specs.declared.System.{System}
-use Rattle.rules.specs.declared.SystemNumber.{SystemNumber}
-use Rattle.rules.specs.declared.SystemNumber.the-variants.{Known, NoSystem}
-use Rattle.rules.specs.Systems.{sequencesOf, macroblocksOf, systemOf}
-use Rattle.rules.specs.Check.{everySequence, unflagged, checkRows}
-use Rattle.rules.specs.Macroblock.{pictureRows, MacroblockNumbered}
-use Rattle.rules.proofs.Macroblock.{picture-23, picture-0, macroblock-1, macroblock-2, macroblock-3, macroblock-checked, macroblock-rows}
+use Rattle.paper.specs.declared.System.{System}
+use Rattle.paper.specs.declared.SystemNumber.{SystemNumber}
+use Rattle.paper.specs.declared.SystemNumber.the-variants.{Known, NoSystem}
+use Rattle.rules_format.specs.Systems.{sequencesOf, macroblocksOf, systemOf}
+use Rattle.rules_reads.specs.Check.{everySequence, unflagged, checkRows}
+use Rattle.rules_reads.specs.Macroblock.{pictureRows, MacroblockNumbered}
+use Rattle.rules_reads.proofs.Macroblock.{picture-23, picture-0, macroblock-1, macroblock-2, macroblock-3, macroblock-checked, macroblock-rows}
 use Rattle.refuse_check.specs.Asked.{wholeNumber}
 use Rattle.refuse_check.proofs.Ways.{whole-number}
 

@@ -1,10 +1,10 @@
 // The macroblock read's refusals.
 ghost use mathlib.Core.Path.{_≡_};
 ghost use Rattle.base.specs.Calls.{firstOf};
-ghost use Rattle.rules.specs.Macroblock.{pictureRows, MacroblockNumbered};
+ghost use Rattle.rules_reads.specs.Macroblock.{pictureRows, MacroblockNumbered};
 use judges::Test;
-use rules::System;
-use rules::SystemNumber;
+use paper::System;
+use paper::SystemNumber;
 
 // What a frame is refused for beyond the frame check: 23.
 fn picture_number(y: System, frame: &[u8]) -> u32

@@ -7,15 +7,15 @@ use lib.Dec.{eqb}
 use lib.ListN.{length}
 use borrow.Author.Tests.{eq-eqb, ne-eqb, not-true, not-false}
 use Rattle.base.specs.Calls.{firstOf}
-use Rattle.rules.specs.declared.System.{System}
-use Rattle.rules.specs.declared.SystemNumber.{SystemNumber}
-use Rattle.rules.specs.declared.SystemNumber.the-variants.{Known, NoSystem}
-use Rattle.rules.specs.declared.Pack.{Pack}
-use Rattle.rules.specs.Systems.{sequencesOf, systemOf}
-use Rattle.rules.specs.TimeCode.{timeOk, groupOk}
-use Rattle.rules.specs.Check.{everySequence, unflagged, checkRows}
-use Rattle.rules.specs.Time.{timeFirst, groupFirst, subcodeAgrees, timeRows, timeNumber}
-use Rattle.rules.proofs.Time.{time-23, time-26, time-27, time-0, time-1, time-2, time-checked, time-rows}
+use Rattle.paper.specs.declared.System.{System}
+use Rattle.paper.specs.declared.SystemNumber.{SystemNumber}
+use Rattle.paper.specs.declared.SystemNumber.the-variants.{Known, NoSystem}
+use Rattle.paper.specs.declared.Pack.{Pack}
+use Rattle.rules_format.specs.Systems.{sequencesOf, systemOf}
+use Rattle.rules_packs.specs.TimeCode.{timeOk, groupOk}
+use Rattle.rules_reads.specs.Check.{everySequence, unflagged, checkRows}
+use Rattle.rules_reads.specs.Time.{timeFirst, groupFirst, subcodeAgrees, timeRows, timeNumber}
+use Rattle.rules_reads.proofs.Time.{time-23, time-26, time-27, time-0, time-1, time-2, time-checked, time-rows}
 use Rattle.refuse_check.specs.Asked.{wholeNumber}
 use Rattle.refuse_check.proofs.Ways.{whole-number}
 

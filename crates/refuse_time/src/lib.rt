@@ -1,10 +1,10 @@
 // The time code read's refusals.
 ghost use mathlib.Core.Path.{_≡_};
 ghost use Rattle.base.specs.Calls.{firstOf};
-ghost use Rattle.rules.specs.Time.{timeRows, timeNumber};
+ghost use Rattle.rules_reads.specs.Time.{timeRows, timeNumber};
 use judges::Test;
-use rules::System;
-use rules::SystemNumber;
+use paper::System;
+use paper::SystemNumber;
 
 // What a frame is refused for beyond the frame check: 23, 26, 27.
 fn clock_number(y: System, frame: &[u8]) -> u32

@@ -6,17 +6,17 @@ use Prim.Native.Nat.{ℕ, _-_, _*_}
 use lib.Dec.{eqb}
 use lib.IntN.{ℤ}
 use borrow.Author.Tests.{not-true, not-false}
-use Rattle.rules.specs.declared.System.{System}
-use Rattle.rules.specs.declared.SystemNumber.{SystemNumber}
-use Rattle.rules.specs.declared.SystemNumber.the-variants.{Known, NoSystem}
-use Rattle.rules.specs.declared.Pack.{Pack}
-use Rattle.rules.specs.Systems.{sequencesOf, isCount, systemOf}
-use Rattle.rules.specs.Packs.{packOf}
-use Rattle.rules.specs.TimeCode.{timePack, timeTaken}
-use Rattle.rules.specs.Samples.{allInRange}
-use Rattle.rules.specs.Written.{Contents}
-use Rattle.rules.specs.Write.{contentsOf, lengthsOk, writeNumber}
-use Rattle.rules.proofs.Write.{write-1, write-2, write-3, write-4, write-31, write-32, write-0}
+use Rattle.paper.specs.declared.System.{System}
+use Rattle.paper.specs.declared.SystemNumber.{SystemNumber}
+use Rattle.paper.specs.declared.SystemNumber.the-variants.{Known, NoSystem}
+use Rattle.paper.specs.declared.Pack.{Pack}
+use Rattle.rules_format.specs.Systems.{sequencesOf, isCount, systemOf}
+use Rattle.rules_packs.specs.Packs.{packOf}
+use Rattle.rules_packs.specs.TimeCode.{timePack, timeTaken}
+use Rattle.rules_format.specs.Samples.{allInRange}
+use Rattle.promises.specs.Contents.{Contents}
+use Rattle.rules_writes.specs.Write.{contentsOf, lengthsOk, writeNumber}
+use Rattle.rules_writes.proofs.Write.{write-1, write-2, write-3, write-4, write-31, write-32, write-0}
 
 pub way-1 : (k : ℕ) (l : Contents) (size : ℕ) (r : SystemNumber) → r ≡ systemOf k → r ≡ NoSystem → 1 ≡ writeNumber k l size
 way-1 k l size r er en = write-1 k l size (sym er ∙ en)

@@ -1,8 +1,8 @@
 // What the writer is lent: its refusals in their order, each condition known before the first number is given.
 ghost use mathlib.Core.Path.{_≡_};
-ghost use Rattle.rules.specs.Write.{contentsOf, lengthsOk, writeNumber};
-use rules::System;
-use rules::SystemNumber;
+ghost use Rattle.rules_writes.specs.Write.{contentsOf, lengthsOk, writeNumber};
+use paper::System;
+use paper::SystemNumber;
 
 // The lengths are the system's and the count's.
 fn lengths_ok(

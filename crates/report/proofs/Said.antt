@@ -9,11 +9,11 @@ use Rattle.base.specs.Run.{run}
 use Rattle.base.proofs.Cases.{by-eq}
 use Rattle.base.proofs.Picks.{pick-true, pick-false}
 use Rattle.base.proofs.Runs.{run-same, run-none, run-split}
-use Rattle.rules.specs.declared.Fault.{Fault}
-use Rattle.rules.specs.declared.Survey.{Survey}
-use Rattle.rules.specs.Records.{flat, room, kept, after}
-use Rattle.rules.specs.Survey.{surveyAnswer, refusal}
-use Rattle.rules.proofs.Records.{flat-length, kept-length}
+use Rattle.paper.specs.declared.Fault.{Fault}
+use Rattle.paper.specs.declared.Survey.{Survey}
+use Rattle.rules_surveys.specs.Records.{flat, room, kept, after}
+use Rattle.rules_surveys.specs.Survey.{surveyAnswer, refusal}
+use Rattle.rules_surveys.proofs.Records.{flat-length, kept-length}
 use Rattle.text.specs.Lines.{lineOf}
 use Rattle.report.proofs.Ways.{at-record, at-totals, at-end, at-refusal, at-none}
 use Rattle.report.specs.Printed.{recordLine, totalsLine, refusalLine, lineAt, faultLines, surveyText}

@@ -10,7 +10,7 @@ use Rattle.base.specs.Run.{run}
 use Rattle.base.proofs.Picks.{pick-true, pick-false}
 use Rattle.base.proofs.Parts.{rest-part, rest-past}
 use Rattle.base.proofs.Runs.{run-more}
-use Rattle.rules.specs.declared.Survey.{Survey}
+use Rattle.paper.specs.declared.Survey.{Survey}
 use Rattle.report.specs.Printed.{lineAt, inRoom, Printed, textIn, Texted, Texting}
 
 room-for : (size : ℕ) (text : List ℕ) → 64 ≤ size → inRoom size text ≡ text

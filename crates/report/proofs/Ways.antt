@@ -8,7 +8,7 @@ use lib.ListN.{length, take, drop}
 use borrow.Author.Tests.{eq-eqb, ne-eqb, lt-ltb, le-ltb, le-leb}
 use Rattle.base.proofs.Picks.{pick-true, pick-false, pick-either}
 use Rattle.base.proofs.Parts.{range-part, length-part}
-use Rattle.rules.specs.declared.Survey.{Survey}
+use Rattle.paper.specs.declared.Survey.{Survey}
 use Rattle.text.specs.Lines.{lineOf, lineIn, Lined}
 use Rattle.report.specs.Printed.{recordLine, totalsLine, refusalLine, lineAt, inRoom, Printed}
 

@@ -6,8 +6,8 @@ use lib.Dec.{eqb, ltb, leb}
 use lib.ListN.{length, take, drop}
 use Rattle.base.specs.Pick.{pick}
 use Rattle.base.specs.Run.{run}
-use Rattle.rules.specs.declared.Fault.{Fault}
-use Rattle.rules.specs.declared.Survey.{Survey}
+use Rattle.paper.specs.declared.Fault.{Fault}
+use Rattle.paper.specs.declared.Survey.{Survey}
 use Rattle.text.specs.Lines.{lineOf}
 
 -- "It prints `F`, channel, sequence, place, fault, parted by tabs": record i of the list, where it holds that

@@ -1,7 +1,7 @@
 // What is printed of a survey, line by line: its records, then its totals; or its refusal alone.
 ghost use mathlib.Core.List.{[], _∷_};
 ghost use Rattle.report.specs.Printed.{recordLine, totalsLine, refusalLine, lineAt, Printed, Texted};
-use rules::Survey;
+use paper::Survey;
 
 // The lines of a list of 64 records at most, and the bytes that they want.
 const LINES: u32 = 65;

@@ -12,19 +12,19 @@ use borrow.Author.Tests.{eqb-true, leb-true, ltb-true, not-true, not-false}
 use Rattle.base.specs.Run.{run, tab}
 use Rattle.base.proofs.Parts.{range-part}
 use Rattle.base.proofs.Picks.{pick-true, pick-false, both-held}
-use Rattle.rules.specs.declared.System.{System}
-use Rattle.rules.specs.declared.Section.the-variants.{Audio}
-use Rattle.rules.specs.Systems.{sequencesOf, halfOf, positionsOf}
-use Rattle.rules.specs.Blocks.{sequenceAt}
-use Rattle.rules.specs.Sound.{difOf, halfAt, rankOf, sequenceOf, audioOf, soundPlace, byteOf, rankAt}
-use Rattle.rules.specs.Faults.{names}
-use Rattle.rules.specs.Noting.{Noted}
-use Rattle.rules.specs.Reading.{readSample, salvagedSample}
-use Rattle.rules.proofs.Systems.{sequences-le, half-cases, half-twice}
-use Rattle.rules.proofs.Places.{place-in-below}
-use Rattle.rules.proofs.Blocks.{block-in-sequence, sequence-length}
-use Rattle.rules.proofs.Sound.{half-le, audio-below, rank-sequence, sequence-below}
-use Rattle.rules.proofs.Halves.{half-start, rank-le}
+use Rattle.paper.specs.declared.System.{System}
+use Rattle.paper.specs.declared.Section.the-variants.{Audio}
+use Rattle.rules_format.specs.Systems.{sequencesOf, halfOf, positionsOf}
+use Rattle.rules_format.specs.Blocks.{sequenceAt}
+use Rattle.rules_format.specs.Sound.{difOf, halfAt, rankOf, sequenceOf, audioOf, soundPlace, byteOf, rankAt}
+use Rattle.rules_format.specs.Faults.{names}
+use Rattle.rules_surveys.specs.Noting.{Noted}
+use Rattle.rules_format.specs.Reading.{readSample, salvagedSample}
+use Rattle.rules_format.proofs.Systems.{sequences-le, half-cases, half-twice}
+use Rattle.rules_format.proofs.Places.{place-in-below}
+use Rattle.rules_format.proofs.Blocks.{block-in-sequence, sequence-length}
+use Rattle.rules_format.proofs.Sound.{half-le, audio-below, rank-sequence, sequence-below}
+use Rattle.rules_surveys.proofs.Halves.{half-start, rank-le}
 use Rattle.fault_list.specs.Asked.{nextFaults}
 use Rattle.fault_list.proofs.Next.{next-inside}
 use Rattle.sequence_samples.specs.Taken.{heldWord, heldBlock, heldPart, Between, blocksTaken}

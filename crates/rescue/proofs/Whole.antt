@@ -16,19 +16,19 @@ use Rattle.base.proofs.Filling.{Filled, filled-none, filled-next, filled-end}
 use Rattle.base.proofs.Parts.{range-part, length-part}
 use Rattle.base.proofs.Picks.{pick-true, pick-false, first-here, first-next}
 use Rattle.base.proofs.Runs.{end-within, length-tab}
-use Rattle.rules.specs.declared.System.{System}
-use Rattle.rules.specs.declared.SystemNumber.{SystemNumber}
-use Rattle.rules.specs.declared.SystemNumber.the-variants.{Known, NoSystem}
-use Rattle.rules.specs.declared.Survey.{Survey}
-use Rattle.rules.specs.Systems.{sequencesOf, halfOf, positionsOf, inSystem, systemOf}
-use Rattle.rules.specs.Faults.{frameFaults, faultsIn}
-use Rattle.rules.specs.Noting.{Noted}
-use Rattle.rules.specs.Survey.{refusal}
-use Rattle.rules.specs.Salvage.{salvagedChannel, salvaged, salvageNumber, salvageLeft, Salvaged}
-use Rattle.rules.proofs.Systems.{half-cases, positions-le}
-use Rattle.rules.proofs.Records.{noted-turn}
-use Rattle.rules.proofs.Halves.{faults-halves, halves-le}
-use Rattle.rules.proofs.Calls.{survey-done, survey-stopped}
+use Rattle.paper.specs.declared.System.{System}
+use Rattle.paper.specs.declared.SystemNumber.{SystemNumber}
+use Rattle.paper.specs.declared.SystemNumber.the-variants.{Known, NoSystem}
+use Rattle.paper.specs.declared.Survey.{Survey}
+use Rattle.rules_format.specs.Systems.{sequencesOf, halfOf, positionsOf, inSystem, systemOf}
+use Rattle.rules_surveys.specs.FaultLists.{frameFaults, faultsIn}
+use Rattle.rules_surveys.specs.Noting.{Noted}
+use Rattle.rules_surveys.specs.Survey.{refusal}
+use Rattle.rules_surveys.specs.Salvage.{salvagedChannel, salvaged, salvageNumber, salvageLeft, Salvaged}
+use Rattle.rules_format.proofs.Systems.{half-cases, positions-le}
+use Rattle.rules_surveys.proofs.Records.{noted-turn}
+use Rattle.rules_surveys.proofs.Halves.{faults-halves, halves-le}
+use Rattle.rules_surveys.proofs.Calls.{survey-done, survey-stopped}
 use Rattle.fault_list.specs.Asked.{tallied}
 use Rattle.sequence_samples.proofs.Between.{between-all}
 use Rattle.rescue.specs.Taken.{heldSample, halfSamples, halfFaults}

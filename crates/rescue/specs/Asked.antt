@@ -4,11 +4,11 @@ use mathlib.Core.List.{List}
 use Prim.Native.Nat.{ℕ, _+_, _*_, _≤_, _<_}
 use lib.IntN.{ℤ}
 use lib.ListN.{length}
-use Rattle.rules.specs.declared.System.{System}
-use Rattle.rules.specs.Systems.{sequencesOf, halfOf, positionsOf}
-use Rattle.rules.specs.Faults.{frameFaults}
-use Rattle.rules.specs.Noting.{Noted}
-use Rattle.rules.specs.Salvage.{salvaged}
+use Rattle.paper.specs.declared.System.{System}
+use Rattle.rules_format.specs.Systems.{sequencesOf, halfOf, positionsOf}
+use Rattle.rules_surveys.specs.FaultLists.{frameFaults}
+use Rattle.rules_surveys.specs.Noting.{Noted}
+use Rattle.rules_surveys.specs.Salvage.{salvaged}
 use Rattle.sequence_samples.specs.Taken.{Between}
 use Rattle.rescue.specs.Taken.{heldSample, halfFaults}
 

@@ -7,15 +7,15 @@ use lib.IntN.{ℤ}
 use lib.ListN.{length}
 use Rattle.base.specs.Pick.{pick}
 use Rattle.base.specs.Run.{run, tab}
-use Rattle.rules.specs.declared.System.{System}
-use Rattle.rules.specs.declared.Fault.{Fault}
-use Rattle.rules.specs.Systems.{sequencesOf, halfOf, positionsOf}
-use Rattle.rules.specs.Samples.{numberOf}
-use Rattle.rules.specs.Sound.{difOf, halfAt}
-use Rattle.rules.specs.Faults.{partFaults}
-use Rattle.rules.specs.Audio.{isAudio}
-use Rattle.rules.specs.Reading.{salvagedSample}
-use Rattle.rules.specs.Salvage.{salvagedChannel}
+use Rattle.paper.specs.declared.System.{System}
+use Rattle.paper.specs.declared.Fault.{Fault}
+use Rattle.rules_format.specs.Systems.{sequencesOf, halfOf, positionsOf}
+use Rattle.rules_format.specs.Samples.{numberOf}
+use Rattle.rules_format.specs.Sound.{difOf, halfAt}
+use Rattle.rules_surveys.specs.FaultLists.{partFaults}
+use Rattle.rules_reads.specs.Audio.{isAudio}
+use Rattle.rules_format.specs.Reading.{salvagedSample}
+use Rattle.rules_surveys.specs.Salvage.{salvagedChannel}
 
 -- sample t of audio channel c
 abbrev pub heldSample : System → List ℕ → ℕ → ℕ → ℤ

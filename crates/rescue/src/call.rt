@@ -1,11 +1,11 @@
 // The call: its refusals in their order, then the audio channels one after the other.
 ghost use lib.ListN.{length};
-ghost use Rattle.rules.specs.Salvage.{Salvaged};
+ghost use Rattle.rules_surveys.specs.Salvage.{Salvaged};
 ghost use Rattle.rescue.specs.Asked.{FrameAsked, FrameSalvaged};
 use crate::half;
-use rules::Survey;
-use rules::System;
-use rules::SystemNumber;
+use paper::Survey;
+use paper::System;
+use paper::SystemNumber;
 
 // Every audio channel.
 fn salvage_all(frame: &[u8], y: System, samples: &mut [i32], list: &mut [u32]) -> u32

@@ -2,15 +2,15 @@
 ghost use mathlib.Core.Path.{_≡_};
 ghost use Prim.Native.Nat.{_+_, _*_, _≤_, _<_};
 ghost use lib.ListN.{length};
-ghost use Rattle.rules.specs.Systems.{halfOf, positionsOf};
-ghost use Rattle.rules.specs.Blocks.{sequenceAt};
-ghost use Rattle.rules.specs.Sound.{difOf};
-ghost use Rattle.rules.specs.Noting.{Noted};
+ghost use Rattle.rules_format.specs.Systems.{halfOf, positionsOf};
+ghost use Rattle.rules_format.specs.Blocks.{sequenceAt};
+ghost use Rattle.rules_format.specs.Sound.{difOf};
+ghost use Rattle.rules_surveys.specs.Noting.{Noted};
 ghost use Rattle.sequence_samples.specs.Taken.{Between};
 ghost use Rattle.rescue.specs.Taken.{heldSample, samplesFit, samplesLeft, rankSequence, rankFaults};
 ghost use Rattle.rescue.specs.Asked.{RankAsked, HalfAsked, HalfSalvaged};
 use layout::SEQUENCE;
-use rules::System;
+use paper::System;
 
 // The bytes of the sequence of rank r.
 fn rank_part(frame: &[u8], y: System, i: u32, r: u32) -> &[u8]

@@ -11,7 +11,7 @@ use lib.Seq.{getD-set-same, getD-set-other, ext-getD}
 use Rattle.base.specs.Run.{tab}
 use Rattle.base.proofs.Cases.{by-lt}
 use Rattle.base.proofs.Runs.{length-tab, tab-at}
-use Rattle.rules.proofs.Sound.{Half, rank-below, audio-below}
+use Rattle.rules_format.proofs.Sound.{Half, rank-below, audio-below}
 use Rattle.sequence_samples.specs.Taken.{Placed, orderOf, Between}
 
 -- ---- Placed

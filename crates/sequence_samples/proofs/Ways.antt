@@ -15,21 +15,21 @@ use borrow.Author.Tests.{eqb-true, leb-true, eq-eqb, le-leb}
 use Rattle.base.specs.Pick.{pick}
 use Rattle.base.proofs.Parts.{range-part, length-part}
 use Rattle.base.proofs.Picks.{pick-true, pick-false, both-held}
-use Rattle.rules.specs.declared.System.{System}
-use Rattle.rules.specs.declared.Section.the-variants.{Audio}
-use Rattle.rules.specs.declared.Place.{Place}
-use Rattle.rules.specs.declared.Sample.{Sample}
-use Rattle.rules.specs.declared.Sample.the-variants.{Lost}
-use Rattle.rules.specs.Systems.{halfOf, positionsOf}
-use Rattle.rules.specs.Places.{block, placeIn, placeFor}
-use Rattle.rules.specs.Ids.{blockAnswer}
-use Rattle.rules.specs.Blocks.{blockIn}
-use Rattle.rules.specs.Samples.{numberOf, sampleOf}
-use Rattle.rules.specs.Sound.{rankOf, audioOf, soundPlace, wordNumber, rankAt, firstAt, sampleAt}
-use Rattle.rules.specs.Faults.{faultOf, faultAt, names}
-use Rattle.rules.proofs.Systems.{half-cases, positions-half}
-use Rattle.rules.proofs.Places.{entry-place-in, place-for}
-use Rattle.rules.proofs.Sound.{half-some, half-le, sample-back, audio-below, word-below, first-below, rank-sample, audio-sample}
+use Rattle.paper.specs.declared.System.{System}
+use Rattle.paper.specs.declared.Section.the-variants.{Audio}
+use Rattle.paper.specs.declared.Place.{Place}
+use Rattle.paper.specs.declared.Sample.{Sample}
+use Rattle.paper.specs.declared.Sample.the-variants.{Lost}
+use Rattle.rules_format.specs.Systems.{halfOf, positionsOf}
+use Rattle.rules_format.specs.Places.{block, placeIn, placeFor}
+use Rattle.rules_format.specs.Ids.{blockAnswer}
+use Rattle.rules_format.specs.Blocks.{blockIn}
+use Rattle.rules_format.specs.Samples.{numberOf, sampleOf}
+use Rattle.rules_format.specs.Sound.{rankOf, audioOf, soundPlace, wordNumber, rankAt, firstAt, sampleAt}
+use Rattle.rules_format.specs.Faults.{faultOf, faultAt, names}
+use Rattle.rules_format.proofs.Systems.{half-cases, positions-half}
+use Rattle.rules_format.proofs.Places.{entry-place-in, place-for}
+use Rattle.rules_format.proofs.Sound.{half-some, half-le, sample-back, audio-below, word-below, first-below, rank-sample, audio-sample}
 use Rattle.sequence_samples.specs.Taken.{heldWord, heldBlock, heldPart, Placed, Between, blocksTaken}
 use Rattle.sequence_samples.specs.Asked.{WordsAsked, BlockAsked, PartAsked}
 use Rattle.sequence_samples.proofs.Between.{placed-more, word-within, between-none, between-next, between-same}

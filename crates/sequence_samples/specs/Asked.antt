@@ -3,8 +3,8 @@ use mathlib.Core.Path.{_≡_}
 use mathlib.Core.List.{List}
 use Prim.Native.Nat.{ℕ, _*_, _≤_, _<_}
 use lib.ListN.{length}
-use Rattle.rules.specs.declared.System.{System}
-use Rattle.rules.specs.Systems.{positionsOf}
+use Rattle.paper.specs.declared.System.{System}
+use Rattle.rules_format.specs.Systems.{positionsOf}
 
 -- the words of a block, for n samples
 pub record WordsAsked (block : List ℕ) (first step n : ℕ) : Type 0 where

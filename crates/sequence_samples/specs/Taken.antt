@@ -8,13 +8,13 @@ use lib.Dec.{eqb, leb}
 use lib.IntN.{ℤ, pos}
 use lib.ListN.{length, getD}
 use Rattle.base.specs.Pick.{pick}
-use Rattle.rules.specs.declared.System.{System}
-use Rattle.rules.specs.declared.Sample.the-variants.{Lost}
-use Rattle.rules.specs.Systems.{positionsOf}
-use Rattle.rules.specs.Blocks.{blockIn}
-use Rattle.rules.specs.Samples.{numberOf, sampleOf, wordAt}
-use Rattle.rules.specs.Sound.{rankOf, audioOf, soundPlace, byteOf}
-use Rattle.rules.specs.Faults.{names}
+use Rattle.paper.specs.declared.System.{System}
+use Rattle.paper.specs.declared.Sample.the-variants.{Lost}
+use Rattle.rules_format.specs.Systems.{positionsOf}
+use Rattle.rules_format.specs.Blocks.{blockIn}
+use Rattle.rules_format.specs.Samples.{numberOf, sampleOf, wordAt}
+use Rattle.rules_format.specs.Sound.{rankOf, audioOf, soundPlace, byteOf}
+use Rattle.rules_format.specs.Faults.{names}
 
 -- ---- the number of a sample, by its block and by its sequence
 

@@ -3,17 +3,17 @@ ghost use mathlib.Core.Path.{_≡_};
 ghost use Prim.Native.Nat.{ℕ, _+_, _*_};
 ghost use lib.ListN.{length};
 ghost use Rattle.base.specs.Pick.{pick};
-ghost use Rattle.rules.specs.Systems.{halfOf};
-ghost use Rattle.rules.specs.Sound.{rankAt};
+ghost use Rattle.rules_format.specs.Systems.{halfOf};
+ghost use Rattle.rules_format.specs.Sound.{rankAt};
 ghost use Rattle.sequence_samples.specs.Taken.{heldWord, heldBlock, heldPart, Placed, Between, blocksTaken};
 ghost use Rattle.sequence_samples.specs.Asked.{WordsAsked, BlockAsked, PartAsked};
 use layout::BLOCK;
 use layout::SEQUENCE;
-use rules::BlockNumber;
-use rules::Entry;
-use rules::Sample;
-use rules::Section;
-use rules::System;
+use paper::BlockNumber;
+use paper::Entry;
+use paper::Sample;
+use paper::Section;
+use paper::System;
 
 // A sample of a block, lost where the block does not name its place.
 fn or_lost(named: bool, s: Sample) -> Sample

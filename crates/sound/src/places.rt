@@ -1,11 +1,11 @@
 // Which sample stands where.
 ghost use mathlib.Core.Path.{_≡_};
 ghost use Prim.Native.Nat.{_*_, _%_, _<_};
-ghost use Rattle.rules.specs.Systems.{halfOf};
-ghost use Rattle.rules.specs.Sound.{rankAt, firstAt};
+ghost use Rattle.rules_format.specs.Systems.{halfOf};
+ghost use Rattle.rules_format.specs.Sound.{rankAt, firstAt};
 ghost use Rattle.sound.specs.Asked.{First};
-use rules::BlockNumber;
-use rules::System;
+use paper::BlockNumber;
+use paper::System;
 
 // The first sample of an audio block of the sequence of rank r.
 fn first_of(s: u32, r: u32, audio: BlockNumber) -> u32

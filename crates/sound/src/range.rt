@@ -1,6 +1,6 @@
 // Which numbers are samples.
 ghost use mathlib.Core.Path.{_≡_};
-ghost use Rattle.rules.specs.Samples.{inRange, allInRange};
+ghost use Rattle.rules_format.specs.Samples.{inRange, allInRange};
 
 // "a sample outside -32,768 to 32,768" is none.
 pub fn in_range(x: i32) -> bool

@@ -1,12 +1,12 @@
 // A sample as a number of a lent slice, and as a word of an audio block.
 ghost use mathlib.Core.Path.{_≡_};
 ghost use lib.ListN.{getD};
-ghost use Rattle.rules.specs.Samples.{numberOf, sampleIn, sampleOf, wordOf, wordFor};
+ghost use Rattle.rules_format.specs.Samples.{numberOf, sampleIn, sampleOf, wordOf, wordFor};
 ghost use Prim.Native.Nat.{_+_, _*_};
 use crate::levels;
 use crate::range;
-use rules::Sample;
-use rules::SampleNumber;
+use paper::Sample;
+use paper::SampleNumber;
 
 // The sample of a number.
 pub fn sample_in(x: i32) -> SampleNumber

@@ -14,17 +14,17 @@ use Rattle.base.specs.Calls.{ExactlyOne}
 use Rattle.base.proofs.Cases.{by-eq, by-lt}
 use Rattle.base.proofs.Picks.{pick-true, pick-false}
 use Rattle.base.proofs.Runs.{run-zero, run-same, run-length-le}
-use Rattle.rules.specs.declared.System.{System}
-use Rattle.rules.specs.declared.System.the-variants.{I50}
-use Rattle.rules.specs.declared.SystemNumber.the-variants.{Known}
-use Rattle.rules.specs.Systems.{sequencesOf}
-use Rattle.rules.specs.Blocks.{sequenceAt}
-use Rattle.rules.specs.Faults.{sequenceFaults}
-use Rattle.rules.specs.Noting.{Noted, more}
-use Rattle.rules.specs.Survey.{outsideSequences}
-use Rattle.rules.proofs.Systems.{sequences-some, sequences-le}
-use Rattle.rules.proofs.Faults.{sequence-faults-le}
-use Rattle.rules.proofs.Records.{noted-none, noted-turn}
+use Rattle.paper.specs.declared.System.{System}
+use Rattle.paper.specs.declared.System.the-variants.{I50}
+use Rattle.paper.specs.declared.SystemNumber.the-variants.{Known}
+use Rattle.rules_format.specs.Systems.{sequencesOf}
+use Rattle.rules_format.specs.Blocks.{sequenceAt}
+use Rattle.rules_surveys.specs.FaultLists.{sequenceFaults}
+use Rattle.rules_surveys.specs.Noting.{Noted, more}
+use Rattle.rules_surveys.specs.Survey.{outsideSequences}
+use Rattle.rules_format.proofs.Systems.{sequences-some, sequences-le}
+use Rattle.rules_surveys.proofs.FaultLists.{sequence-faults-le}
+use Rattle.rules_surveys.proofs.Records.{noted-none, noted-turn}
 use Rattle.fault_list.specs.Asked.{nextFaults}
 use Rattle.fault_list.proofs.Next.{next-inside, none-outside, none-length}
 use Rattle.stream.specs.declared.Reading.{Reading}

@@ -6,12 +6,12 @@ use lib.Dec.{eqb}
 use lib.ListN.{length, take, getD}
 use Rattle.base.specs.Pick.{pick}
 use Rattle.base.specs.Run.{run}
-use Rattle.rules.specs.declared.System.{System}
-use Rattle.rules.specs.declared.System.the-variants.{I60, I50}
-use Rattle.rules.specs.declared.Fault.{Fault}
-use Rattle.rules.specs.Systems.{sequencesOf}
-use Rattle.rules.specs.Faults.{partFaults}
-use Rattle.rules.specs.Noting.{Noted}
+use Rattle.paper.specs.declared.System.{System}
+use Rattle.paper.specs.declared.System.the-variants.{I60, I50}
+use Rattle.paper.specs.declared.Fault.{Fault}
+use Rattle.rules_format.specs.Systems.{sequencesOf}
+use Rattle.rules_surveys.specs.FaultLists.{partFaults}
+use Rattle.rules_surveys.specs.Noting.{Noted}
 use Rattle.fault_list.specs.Asked.{nextFaults}
 use Rattle.stream.specs.declared.Reading.{Reading}
 

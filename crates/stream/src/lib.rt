@@ -4,7 +4,7 @@ ghost use Prim.Native.Nat.{_+_, min};
 ghost use lib.ListN.{length};
 ghost use Rattle.stream.specs.Input.{countedTo, ofRate, nothing, systemAfter, Next, Refilled};
 use layout::SEQUENCE;
-use rules::System;
+use paper::System;
 
 // What is known of the bytes so far: their count, up to COUNTED, the 1080 system of the first block's rate, the faults found,
 // and how many bytes the last refill gave.

@@ -6,13 +6,13 @@ use native.Mathlib.Omega.{arith}
 use lib.ListN.{length}
 use borrow.Author.Tests.{le-leb}
 use Rattle.base.proofs.Picks.{pick-true, pick-false}
-use Rattle.rules.specs.declared.System.{System}
-use Rattle.rules.specs.declared.Survey.{Survey}
-use Rattle.rules.specs.Systems.{sequencesOf, rateOf, numberOfSystem}
-use Rattle.rules.specs.Faults.{frameFaults}
-use Rattle.rules.proofs.Systems.{system-number, sequences-some}
-use Rattle.rules.proofs.Records.{noted-length}
-use Rattle.rules.proofs.Calls.{survey-2}
+use Rattle.paper.specs.declared.System.{System}
+use Rattle.paper.specs.declared.Survey.{Survey}
+use Rattle.rules_format.specs.Systems.{sequencesOf, rateOf, numberOfSystem}
+use Rattle.rules_surveys.specs.FaultLists.{frameFaults}
+use Rattle.rules_format.proofs.Systems.{system-number, sequences-some}
+use Rattle.rules_surveys.proofs.Records.{noted-length}
+use Rattle.rules_surveys.proofs.Calls.{survey-2}
 use Rattle.text.proofs.Known.{known-refusal}
 use Rattle.report.specs.Printed.{refusalLine, surveyText, linesOf, textIn, Texted}
 use Rattle.report.proofs.Said.{lines-text}

@@ -7,7 +7,7 @@ use native.Mathlib.Omega.{arith}
 use lib.ListN.{length, take, length-append}
 use lib.Seq.{length-take-le}
 use Rattle.io.specs.Counts.{Counts}
-use Rattle.rules.proofs.Records.{noted-length}
+use Rattle.rules_surveys.proofs.Records.{noted-length}
 use Rattle.stream.specs.declared.Reading.{Reading}
 use Rattle.stream.specs.Input.{Read, nothing, Refilled}
 use Rattle.stream.proofs.Inputs.{read-start}

@@ -4,10 +4,10 @@ use mathlib.Core.Logic.{_⊎_}
 use mathlib.Core.List.{List, _++_}
 use Prim.Native.Nat.{ℕ, _+_, _*_, _≤_, _<_}
 use lib.ListN.{length, take, drop}
-use Rattle.rules.specs.declared.System.{System}
-use Rattle.rules.specs.Systems.{rateOf, numberOfSystem}
-use Rattle.rules.specs.Faults.{frameFaults}
-use Rattle.rules.specs.Survey.{surveyNumber}
+use Rattle.paper.specs.declared.System.{System}
+use Rattle.rules_format.specs.Systems.{rateOf, numberOfSystem}
+use Rattle.rules_surveys.specs.FaultLists.{frameFaults}
+use Rattle.rules_surveys.specs.Survey.{surveyNumber}
 use Rattle.report.specs.Printed.{surveyText, Texted}
 use Rattle.verdict.specs.Length.{answerOf}
 use Rattle.stream.specs.declared.Reading.{Reading}

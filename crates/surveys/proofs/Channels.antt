@@ -7,15 +7,15 @@ use native.Mathlib.Nat.{mul-add}
 use lib.ListN.{length, take, drop}
 use Rattle.base.specs.Run.{run}
 use Rattle.base.proofs.Parts.{range-part, length-part}
-use Rattle.rules.specs.declared.System.{System}
-use Rattle.rules.specs.Systems.{sequencesOf}
-use Rattle.rules.specs.Blocks.{sequenceAt}
-use Rattle.rules.specs.Faults.{sequenceFaults, partFaults, channelFaults, frameFaults}
-use Rattle.rules.specs.Noting.{Noted}
-use Rattle.rules.proofs.Systems.{sequences-le}
-use Rattle.rules.proofs.Blocks.{before-channel}
-use Rattle.rules.proofs.Faults.{parts-le, channels-le}
-use Rattle.rules.proofs.Records.{noted-turn}
+use Rattle.paper.specs.declared.System.{System}
+use Rattle.rules_format.specs.Systems.{sequencesOf}
+use Rattle.rules_format.specs.Blocks.{sequenceAt}
+use Rattle.rules_surveys.specs.FaultLists.{sequenceFaults, partFaults, channelFaults, frameFaults}
+use Rattle.rules_surveys.specs.Noting.{Noted}
+use Rattle.rules_format.proofs.Systems.{sequences-le}
+use Rattle.rules_format.proofs.Blocks.{before-channel}
+use Rattle.rules_surveys.proofs.FaultLists.{parts-le, channels-le}
+use Rattle.rules_surveys.proofs.Records.{noted-turn}
 use Rattle.fault_list.specs.Asked.{nextFaults}
 use Rattle.fault_list.proofs.Next.{next-inside}
 use Rattle.surveys.specs.Asked.{ChannelAsked}

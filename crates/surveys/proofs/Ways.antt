@@ -8,16 +8,17 @@ use lib.Dec.{eqb}
 use lib.ListN.{length}
 use borrow.Author.Tests.{eqb-true, eqb-false, eq-eqb, ne-eqb, not-true, not-false}
 use Rattle.base.proofs.Picks.{pick-true, pick-false}
-use Rattle.rules.specs.declared.System.{System}
-use Rattle.rules.specs.declared.SystemNumber.the-variants.{Known, NoSystem}
-use Rattle.rules.specs.declared.SystemNumber.{SystemNumber}
-use Rattle.rules.specs.declared.Survey.{Survey}
-use Rattle.rules.specs.Systems.{sequencesOf, systemOf}
-use Rattle.rules.specs.Faults.{frameFaults, faultsIn}
-use Rattle.rules.specs.Noting.{Noted}
-use Rattle.rules.specs.Survey.{outsideSequences, refusal, FrameSurveyed, SequenceSurveyed}
-use Rattle.rules.proofs.Records.{noted-none}
-use Rattle.rules.proofs.Calls.{inside-means, survey-done, survey-stopped, survey-0, survey-1, survey-2, sequence-0, sequence-1, sequence-3, sequence-4}
+use Rattle.paper.specs.declared.System.{System}
+use Rattle.paper.specs.declared.SystemNumber.the-variants.{Known, NoSystem}
+use Rattle.paper.specs.declared.SystemNumber.{SystemNumber}
+use Rattle.paper.specs.declared.Survey.{Survey}
+use Rattle.rules_format.specs.Systems.{sequencesOf, systemOf}
+use Rattle.rules_surveys.specs.FaultLists.{frameFaults, faultsIn}
+use Rattle.rules_surveys.specs.Noting.{Noted}
+use Rattle.rules_surveys.specs.Survey.{outsideSequences, refusal, FrameSurveyed, SequenceSurveyed}
+use Rattle.rules_surveys.proofs.Records.{noted-none}
+use Rattle.rules_surveys.proofs.Calls.{inside-means, survey-done, survey-stopped, survey-0, survey-1, survey-2, sequence-0, sequence-1, sequence-3}
+use Rattle.rules_surveys.proofs.Calls.{sequence-4}
 use Rattle.fault_list.specs.Asked.{tallied, nextFaults}
 use Rattle.fault_list.proofs.Next.{next-inside}
 use Rattle.surveys.specs.Asked.{wholeFaults}

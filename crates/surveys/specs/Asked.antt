@@ -5,10 +5,10 @@ use Prim.Native.Nat.{ℕ, _*_, _≤_, _<_}
 use lib.Dec.{eqb}
 use lib.ListN.{length}
 use Rattle.base.specs.Pick.{pick}
-use Rattle.rules.specs.declared.System.{System}
-use Rattle.rules.specs.declared.Fault.{Fault}
-use Rattle.rules.specs.Systems.{sequencesOf}
-use Rattle.rules.specs.Faults.{frameFaults}
+use Rattle.paper.specs.declared.System.{System}
+use Rattle.paper.specs.declared.Fault.{Fault}
+use Rattle.rules_format.specs.Systems.{sequencesOf}
+use Rattle.rules_surveys.specs.FaultLists.{frameFaults}
 
 pub record ChannelAsked (frame : List ℕ) (y : System) (h from t : ℕ) : Type 0 where
   pub whole : length frame ≡ 48000 * sequencesOf y

@@ -2,16 +2,16 @@
 ghost use mathlib.Core.Path.{_≡_};
 ghost use Prim.Native.Nat.{_*_};
 ghost use lib.ListN.{length};
-ghost use Rattle.rules.specs.Systems.{sequencesOf};
-ghost use Rattle.rules.specs.Faults.{channelFaults, frameFaults};
-ghost use Rattle.rules.specs.Noting.{Noted};
-ghost use Rattle.rules.specs.Survey.{FrameSurveyed};
+ghost use Rattle.rules_format.specs.Systems.{sequencesOf};
+ghost use Rattle.rules_surveys.specs.FaultLists.{channelFaults, frameFaults};
+ghost use Rattle.rules_surveys.specs.Noting.{Noted};
+ghost use Rattle.rules_surveys.specs.Survey.{FrameSurveyed};
 ghost use Rattle.surveys.specs.Asked.{ChannelAsked, wholeFaults};
 use layout::CHANNELS;
 use layout::SEQUENCE;
-use rules::Survey;
-use rules::System;
-use rules::SystemNumber;
+use paper::Survey;
+use paper::System;
+use paper::SystemNumber;
 
 // The survey of one DIF channel, which starts at `from`.
 fn survey_channel(frame: &[u8], y: System, h: u32, from: usize, list: &mut [u32], t: u32) -> u32

@@ -1,8 +1,8 @@
 // The survey of one sequence.
-ghost use Rattle.rules.specs.Survey.{SequenceSurveyed};
+ghost use Rattle.rules_surveys.specs.Survey.{SequenceSurveyed};
 use layout::SEQUENCE;
-use rules::Survey;
-use rules::SystemNumber;
+use paper::Survey;
+use paper::SystemNumber;
 
 // The survey of one sequence. Refusals: 1, 3, 4.
 pub fn survey_sequence(

@@ -1,13 +1,13 @@
 // Tries the public calls on good and bad input, and prints what each answers. The frame is all zeros: an ID of three zeros
 // is that of H0 of DIF channel 2, sequence 0, so that one block names its place and no other does.
 ghost use Prim.Native.Nat.{_≤_};
-use rules::BlockId;
-use rules::BlockNumber;
-use rules::IdAnswer;
-use rules::Place;
-use rules::Section;
-use rules::System;
-use rules::SystemNumber;
+use paper::BlockId;
+use paper::BlockNumber;
+use paper::IdAnswer;
+use paper::Place;
+use paper::Section;
+use paper::System;
+use paper::SystemNumber;
 
 // The numbers of a system: sequences, positions, counts, macroblocks, rate, STYPE and the frame's thousands of bytes.
 fn system(number: u32) {

@@ -2,7 +2,7 @@
 use crate::tables;
 use crate::tries;
 use crate::values;
-use rules::Survey;
+use paper::Survey;
 use tables::Patch;
 use tables::at;
 use values::some_bytes;

@@ -2,8 +2,8 @@
 ghost use Prim.Native.Nat.{_<_};
 use crate::tables;
 use crate::values;
-use rules::AudioAnswer;
-use rules::TimeAnswer;
+use paper::AudioAnswer;
+use paper::TimeAnswer;
 use tables::Patch;
 use values::some_bytes;
 

@@ -1,9 +1,9 @@
 // Every row that the Recommendation's tables 22 to 24 print. A line: the table, the system, DIF channel, DIF sequence and
 // V number; where the slot carries a macroblock, h, i, j and k of its CM, and 1 if that macroblock lies in this slot.
-use rules::BlockNumber;
-use rules::Carried;
-use rules::Carrier;
-use rules::System;
+use paper::BlockNumber;
+use paper::Carried;
+use paper::Carrier;
+use paper::System;
 
 // CM h,i,j,k of a number, in ten rows and in eleven. The edge unit is row 11 of DIF channel 0.
 fn ten_rows(b: u32) {

@@ -1,7 +1,7 @@
 // Writes known frames of all four systems, and tries the writer on bad input. A line `sum` is a case, the answer and an Adler
 // checksum of the whole frame; `block` a written block's first
 // bytes; `answer` a number and how many bytes were written.
-use rules::Place;
+use paper::Place;
 
 // Numbers of the whole range, with the least level and the lost mark first and the least level last.
 fn fill_numbers(numbers: &mut [i32]) {

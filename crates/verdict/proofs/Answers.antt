@@ -10,15 +10,15 @@ use Rattle.base.specs.Calls.{ExactlyOne}
 use Rattle.base.proofs.Cases.{by-eq, by-lt}
 use Rattle.base.proofs.Picks.{pick-true, pick-false}
 use Rattle.base.proofs.Runs.{run-runs}
-use Rattle.rules.specs.declared.System.{System}
-use Rattle.rules.specs.declared.Survey.{Survey}
-use Rattle.rules.specs.Systems.{sequencesOf, rateOf, numberOfSystem}
-use Rattle.rules.specs.Faults.{partFaults, channelFaults, frameFaults}
-use Rattle.rules.specs.Noting.{Noted}
-use Rattle.rules.specs.Survey.{refusal}
-use Rattle.rules.proofs.Systems.{system-number, sequences-some, sequences-le, rate-sequences}
-use Rattle.rules.proofs.Faults.{faults-sequences}
-use Rattle.rules.proofs.Calls.{survey-0, survey-2, survey-done, survey-stopped, survey-taken}
+use Rattle.paper.specs.declared.System.{System}
+use Rattle.paper.specs.declared.Survey.{Survey}
+use Rattle.rules_format.specs.Systems.{sequencesOf, rateOf, numberOfSystem}
+use Rattle.rules_surveys.specs.FaultLists.{partFaults, channelFaults, frameFaults}
+use Rattle.rules_surveys.specs.Noting.{Noted}
+use Rattle.rules_surveys.specs.Survey.{refusal}
+use Rattle.rules_format.proofs.Systems.{system-number, sequences-some, sequences-le, rate-sequences}
+use Rattle.rules_surveys.proofs.FaultLists.{faults-sequences}
+use Rattle.rules_surveys.proofs.Calls.{survey-0, survey-2, survey-done, survey-stopped, survey-taken}
 use Rattle.fault_list.specs.Asked.{tallied}
 use Rattle.stream.specs.declared.Reading.{Reading}
 use Rattle.stream.specs.Input.{ofRate, dsfIn, systemFrom, readFaults, Read}

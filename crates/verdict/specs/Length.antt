@@ -5,12 +5,12 @@ use Prim.Native.Nat.{ℕ, _*_}
 use lib.Dec.{eqb}
 use lib.ListN.{length}
 use Rattle.base.specs.Pick.{pick}
-use Rattle.rules.specs.declared.System.{System}
-use Rattle.rules.specs.declared.Survey.{Survey}
-use Rattle.rules.specs.Systems.{sequencesOf, rateOf, numberOfSystem}
-use Rattle.rules.specs.Faults.{frameFaults}
-use Rattle.rules.specs.Records.{after}
-use Rattle.rules.specs.Survey.{surveyNumber, surveyAnswer, refusal}
+use Rattle.paper.specs.declared.System.{System}
+use Rattle.paper.specs.declared.Survey.{Survey}
+use Rattle.rules_format.specs.Systems.{sequencesOf, rateOf, numberOfSystem}
+use Rattle.rules_surveys.specs.FaultLists.{frameFaults}
+use Rattle.rules_surveys.specs.Records.{after}
+use Rattle.rules_surveys.specs.Survey.{surveyNumber, surveyAnswer, refusal}
 use Rattle.fault_list.specs.Asked.{tallied}
 use Rattle.stream.specs.declared.Reading.{Reading}
 use Rattle.stream.specs.Input.{dsfIn, Read}

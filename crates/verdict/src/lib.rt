@@ -1,7 +1,7 @@
 // What is answered of an input that was read to its end: refusal 2, or the survey of the frame.
 ghost use Rattle.verdict.specs.Length.{Judged, Answered};
-use rules::Survey;
-use rules::System;
+use paper::Survey;
+use paper::System;
 use stream::Reading;
 
 // The length of an input, for a frame of its system.

@@ -9,20 +9,21 @@ use lib.ListN.{length, take, drop}
 use borrow.Author.Tests.{eqb-true, leb-false, eqb-false, not-true, not-false}
 use Rattle.base.proofs.Parts.{range-part}
 use Rattle.base.proofs.Picks.{neither}
-use Rattle.rules.specs.declared.System.{System}
-use Rattle.rules.specs.declared.Place.{Place}
-use Rattle.rules.specs.declared.Part.{Part}
-use Rattle.rules.specs.declared.SystemNumber.the-variants.{Known, NoSystem}
-use Rattle.rules.specs.declared.SystemNumber.{SystemNumber}
-use Rattle.rules.specs.Systems.{sequencesOf, systemOf}
-use Rattle.rules.specs.Places.{place}
-use Rattle.rules.specs.Blocks.{blockAt, noPart}
-use Rattle.rules.specs.Faults.{faultAt}
-use Rattle.rules.specs.Survey.{outsideSequences}
-use Rattle.rules.specs.View.{viewNumber, ViewNumbered, Viewed, ViewLies}
-use Rattle.rules.proofs.Systems.{sequences-le}
-use Rattle.rules.proofs.Blocks.{start-within}
-use Rattle.rules.proofs.Calls.{inside-means, view-1, view-2, view-3, view-fault, view-lies-stopped, view-lies-found, view-lies-number, view-lies-within}
+use Rattle.paper.specs.declared.System.{System}
+use Rattle.paper.specs.declared.Place.{Place}
+use Rattle.paper.specs.declared.Part.{Part}
+use Rattle.paper.specs.declared.SystemNumber.the-variants.{Known, NoSystem}
+use Rattle.paper.specs.declared.SystemNumber.{SystemNumber}
+use Rattle.rules_format.specs.Systems.{sequencesOf, systemOf}
+use Rattle.rules_format.specs.Places.{place}
+use Rattle.rules_format.specs.Blocks.{blockAt, noPart}
+use Rattle.rules_format.specs.Faults.{faultAt}
+use Rattle.rules_surveys.specs.Survey.{outsideSequences}
+use Rattle.rules_surveys.specs.View.{viewNumber, ViewNumbered, Viewed, ViewLies}
+use Rattle.rules_format.proofs.Systems.{sequences-le}
+use Rattle.rules_format.proofs.Blocks.{start-within}
+use Rattle.rules_surveys.proofs.Calls.{inside-means, view-1, view-2, view-3, view-fault, view-lies-stopped, view-lies-found, view-lies-number}
+use Rattle.rules_surveys.proofs.Calls.{view-lies-within}
 use Rattle.views.specs.Asked.{InFrame, StartIs}
 
 -- ---- block_start

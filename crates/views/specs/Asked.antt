@@ -1,9 +1,9 @@
 -- What the private function asks and says.
 use mathlib.Core.Path.{_≡_}
 use Prim.Native.Nat.{ℕ, _+_, _*_, _≤_, _<_}
-use Rattle.rules.specs.declared.System.{System}
-use Rattle.rules.specs.Systems.{sequencesOf}
-use Rattle.rules.specs.Blocks.{startOf}
+use Rattle.paper.specs.declared.System.{System}
+use Rattle.rules_format.specs.Systems.{sequencesOf}
+use Rattle.rules_format.specs.Blocks.{startOf}
 
 -- a place of the frame
 pub record InFrame (y : System) (h q p : ℕ) : Type 0 where

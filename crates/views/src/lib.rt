@@ -1,12 +1,12 @@
 // The view of one block: its number by one call, its bytes as a part of the frame by another, or where that part lies.
-ghost use Rattle.rules.specs.View.{ViewLies, ViewNumbered, Viewed};
+ghost use Rattle.rules_surveys.specs.View.{ViewLies, ViewNumbered, Viewed};
 ghost use Rattle.views.specs.Asked.{InFrame, StartIs};
 use layout::BLOCK;
 use layout::PLACES;
-use rules::Part;
-use rules::Place;
-use rules::System;
-use rules::SystemNumber;
+use paper::Part;
+use paper::Place;
+use paper::System;
+use paper::SystemNumber;
 
 // Where a block starts.
 fn block_start(y: System, h: u32, q: u32, p: Place) -> usize

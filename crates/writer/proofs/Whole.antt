@@ -19,29 +19,30 @@ use Rattle.base.proofs.Picks.{pick-true}
 use Rattle.base.proofs.Runs.{end-within, run-zero, run-more, run-same, run-split, length-run}
 use Rattle.base.proofs.Filling.{Filled, filled-none, filled-next, filled-end}
 use Rattle.base.proofs.Parts.{length-part, range-part}
-use Rattle.rules.specs.declared.System.{System}
-use Rattle.rules.specs.declared.SystemNumber.{SystemNumber}
-use Rattle.rules.specs.declared.SystemNumber.the-variants.{Known, NoSystem}
-use Rattle.rules.specs.declared.Section.{Section}
-use Rattle.rules.specs.declared.Section.the-variants.{Header, Subcode, Vaux, Audio, Video}
-use Rattle.rules.specs.declared.BlockNumber.{BlockNumber}
-use Rattle.rules.specs.declared.Place.{Place}
-use Rattle.rules.specs.declared.Entry.{Entry}
-use Rattle.rules.specs.declared.BlockId.{BlockId}
-use Rattle.rules.specs.Systems.{sequencesOf, halfOf, systemOf}
-use Rattle.rules.specs.Places.{blocksOf, place, block, entryAt, placeIn, placeFor}
-use Rattle.rules.specs.Ids.{idBytes, idOf}
-use Rattle.rules.specs.Header.{headerBytes}
-use Rattle.rules.specs.TimeCode.{timePack, groupPack}
-use Rattle.rules.specs.Subcode.{subcodeBytes}
-use Rattle.rules.specs.Vaux.{vauxBytes}
-use Rattle.rules.specs.Picture.{slot, carriedIn}
-use Rattle.rules.specs.Written.{Contents, audioBytes, carriedBytes, videoBytes, payload, entryBlock, writtenBlock, writtenSequence, writtenChannel, writtenFrame}
-use Rattle.rules.specs.Write.{contentsOf, writeNumber, Wrote}
-use Rattle.rules.proofs.Systems.{sequences-le}
-use Rattle.rules.proofs.Places.{place-in-below, entry-place-in, place-for, place-for-past}
-use Rattle.rules.proofs.Written.{entry-block-length, block-entry, block-wide, sequence-wide, channel-wide}
-use Rattle.rules.proofs.Write.{write-1, taken-takes, write-stopped, write-done}
+use Rattle.paper.specs.declared.System.{System}
+use Rattle.paper.specs.declared.SystemNumber.{SystemNumber}
+use Rattle.paper.specs.declared.SystemNumber.the-variants.{Known, NoSystem}
+use Rattle.paper.specs.declared.Section.{Section}
+use Rattle.paper.specs.declared.Section.the-variants.{Header, Subcode, Vaux, Audio, Video}
+use Rattle.paper.specs.declared.BlockNumber.{BlockNumber}
+use Rattle.paper.specs.declared.Place.{Place}
+use Rattle.paper.specs.declared.Entry.{Entry}
+use Rattle.paper.specs.declared.BlockId.{BlockId}
+use Rattle.rules_format.specs.Systems.{sequencesOf, halfOf, systemOf}
+use Rattle.rules_format.specs.Places.{blocksOf, place, block, entryAt, placeIn, placeFor}
+use Rattle.rules_format.specs.Ids.{idBytes, idOf}
+use Rattle.rules_packs.specs.Header.{headerBytes}
+use Rattle.rules_packs.specs.TimeCode.{timePack, groupPack}
+use Rattle.rules_packs.specs.Subcode.{subcodeBytes}
+use Rattle.rules_packs.specs.Vaux.{vauxBytes}
+use Rattle.rules_picture.specs.Picture.{slot, carriedIn}
+use Rattle.promises.specs.Contents.{Contents}
+use Rattle.rules_writes.specs.Written.{audioBytes, carriedBytes, videoBytes, payload, entryBlock, writtenBlock, writtenSequence, writtenChannel, writtenFrame}
+use Rattle.rules_writes.specs.Write.{contentsOf, writeNumber, Wrote}
+use Rattle.rules_format.proofs.Systems.{sequences-le}
+use Rattle.rules_format.proofs.Places.{place-in-below, entry-place-in, place-for, place-for-past}
+use Rattle.rules_writes.proofs.Written.{entry-block-length, block-entry, block-wide, sequence-wide, channel-wide}
+use Rattle.rules_writes.proofs.Write.{write-1, taken-takes, write-stopped, write-done}
 use Rattle.blocks.specs.Fits.{numberFits, audioFits, videoFits}
 use Rattle.writer.specs.Asked.{PartAsked, Begun, BankAsked, VideosAsked, ChannelPartAsked, FrameAsked}
 use Rattle.writer.specs.Banks.{videoBlocks, bankBlocks}

@@ -5,9 +5,10 @@ use mathlib.Core.List.{List}
 use Prim.Native.Nat.{ℕ, _+_, _*_, _≤_, _<_}
 use lib.ListN.{length, take}
 use Rattle.base.specs.Run.{run}
-use Rattle.rules.specs.declared.System.{System}
-use Rattle.rules.specs.Systems.{sequencesOf, isCount, macroblocksOf}
-use Rattle.rules.specs.Written.{Contents, writtenBlock}
+use Rattle.paper.specs.declared.System.{System}
+use Rattle.rules_format.specs.Systems.{sequencesOf, isCount, macroblocksOf}
+use Rattle.promises.specs.Contents.{Contents}
+use Rattle.rules_writes.specs.Written.{writtenBlock}
 
 -- what is lent has the lengths of a count of the system
 pub record Lengths (y : System) (l : Contents) : Type 0 where

@@ -2,10 +2,11 @@
 use mathlib.Core.List.{List}
 use Prim.Native.Nat.{ℕ, _+_}
 use Rattle.base.specs.Run.{run}
-use Rattle.rules.specs.declared.System.{System}
-use Rattle.rules.specs.declared.Section.the-variants.{Video}
-use Rattle.rules.specs.Places.{block}
-use Rattle.rules.specs.Written.{Contents, entryBlock, writtenBlock}
+use Rattle.paper.specs.declared.System.{System}
+use Rattle.paper.specs.declared.Section.the-variants.{Video}
+use Rattle.rules_format.specs.Places.{block}
+use Rattle.promises.specs.Contents.{Contents}
+use Rattle.rules_writes.specs.Written.{entryBlock, writtenBlock}
 
 -- fifteen video blocks, from V(v) on
 unfoldable pub videoBlocks : System → Contents → ℕ → ℕ → ℕ → List ℕ

@@ -1,7 +1,7 @@
 // The call: a refusal, or the frame.
-ghost use Rattle.rules.specs.Write.{contentsOf, Wrote};
+ghost use Rattle.rules_writes.specs.Write.{contentsOf, Wrote};
 use crate::frame;
-use rules::SystemNumber;
+use paper::SystemNumber;
 
 // Writes a frame. Refusals: 1, 2, 3, 4, 31, 32; a refusal writes nothing.
 pub fn write_frame(

@@ -1,13 +1,13 @@
 // The sequences of a DIF channel, and the DIF channels of a frame.
 ghost use mathlib.Core.Path.{_≡_};
 ghost use lib.ListN.{length};
-ghost use Rattle.rules.specs.Written.{writtenChannel, writtenFrame};
-ghost use Rattle.rules.specs.Write.{contentsOf};
+ghost use Rattle.rules_writes.specs.Written.{writtenChannel, writtenFrame};
+ghost use Rattle.rules_writes.specs.Write.{contentsOf};
 ghost use Rattle.writer.specs.Asked.{ChannelPartAsked, FrameAsked};
 use crate::sequence;
 use layout::CHANNELS;
 use layout::SEQUENCE;
-use rules::System;
+use paper::System;
 
 fn write_channel(
     part: &mut [u8],

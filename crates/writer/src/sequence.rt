@@ -2,18 +2,18 @@
 // fifteen video blocks behind it. So they go in stream order.
 ghost use mathlib.Core.Path.{_≡_};
 ghost use Prim.Native.Nat.{_+_};
-ghost use Rattle.rules.specs.Places.{place, entryAt, placeFor};
-ghost use Rattle.rules.specs.Ids.{idOf};
-ghost use Rattle.rules.specs.Written.{writtenSequence};
-ghost use Rattle.rules.specs.Write.{contentsOf};
+ghost use Rattle.rules_format.specs.Places.{place, entryAt, placeFor};
+ghost use Rattle.rules_format.specs.Ids.{idOf};
+ghost use Rattle.rules_writes.specs.Written.{writtenSequence};
+ghost use Rattle.rules_writes.specs.Write.{contentsOf};
 ghost use Rattle.writer.specs.Asked.{PartAsked, Begun, BankAsked, VideosAsked};
 ghost use Rattle.writer.specs.Banks.{videoBlocks, bankBlocks};
 use layout::BLOCK;
-use rules::BlockId;
-use rules::BlockNumber;
-use rules::Place;
-use rules::Section;
-use rules::System;
+use paper::BlockId;
+use paper::BlockNumber;
+use paper::Place;
+use paper::Section;
+use paper::System;
 
 // The bytes of a bank.
 const BANK: usize = 16 * BLOCK;

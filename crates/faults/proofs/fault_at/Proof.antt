@@ -1,7 +1,7 @@
 -- `faults::fault_at` meets its contract: by the ID's answer and the place's entry. Assumes nothing.
 use mathlib.Core.Path.{refl, _∙_}
 use borrow.Author.Needs.{needs}
-use Rattle.rules.specs.Faults.{faultAt}
+use Rattle.rules_format.specs.Faults.{faultAt}
 use Rattle.faults.proofs.fault_at.Statement.{statement}
 use Rattle.faults.proofs.fault_at.Tie as tie
 

@@ -1,7 +1,7 @@
 -- `faults::fault_of` meets its contract: answer by answer. Assumes nothing.
 use mathlib.Core.Path.{refl}
 use borrow.Author.Needs.{needs}
-use Rattle.rules.specs.Faults.{faultOf}
+use Rattle.rules_format.specs.Faults.{faultOf}
 use Rattle.faults.proofs.fault_of.Statement.{statement}
 use Rattle.faults.proofs.fault_of.Tie as tie
 

@@ -6,7 +6,7 @@ use native.Mathlib.Omega.{arith}
 use borrow.Author.Needs.{needs}
 use Rattle.base.specs.Run.{run}
 use Rattle.base.proofs.Runs.{run-zero}
-use Rattle.rules.proofs.Systems.{sequences-le}
+use Rattle.rules_format.proofs.Systems.{sequences-le}
 use Rattle.first_fault.specs.Asked.{streamFaults}
 use Rattle.first_fault.proofs.Ways.{stream-asked, stream-clean, stream-ends, streams-clean}
 use Rattle.first_fault.proofs.first_in.Statement.{statement}

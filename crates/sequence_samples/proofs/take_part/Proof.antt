@@ -2,8 +2,8 @@
 use Prim.Native.Nat.{_+_, _-_, _*_, _≤_}
 use native.Mathlib.Omega.{arith}
 use borrow.Author.Needs.{needs}
-use Rattle.rules.specs.Sound.{rankAt}
-use Rattle.rules.specs.Systems.{halfOf}
+use Rattle.rules_format.specs.Sound.{rankAt}
+use Rattle.rules_format.specs.Systems.{halfOf}
 use Rattle.sequence_samples.specs.Taken.{heldPart, Between}
 use Rattle.sequence_samples.proofs.Ways.{block-ends, block-asked, part-turn, part-done, part-none}
 use Rattle.sequence_samples.proofs.take_part.Statement.{statement}

@@ -1,8 +1,8 @@
 -- `views::block_start` meets its contract: the sum is the start, and the block ends in the frame. Assumes nothing.
 use native.Mathlib.Omega.{arith}
 use borrow.Author.Needs.{needs}
-use Rattle.rules.proofs.Blocks.{before-channel}
-use Rattle.rules.proofs.Systems.{sequences-le}
+use Rattle.rules_format.proofs.Blocks.{before-channel}
+use Rattle.rules_format.proofs.Systems.{sequences-le}
 use Rattle.views.proofs.Ways.{start-is}
 use Rattle.views.proofs.block_start.Statement.{statement}
 use Rattle.views.proofs.block_start.Tie as tie

@@ -5,8 +5,8 @@ use lib.ListN.{length-set}
 use borrow.Author.Needs.{needs}
 use borrow.Author.Tests.{lt-ltb, le-ltb}
 use Rattle.base.specs.Pick.{pick}
-use Rattle.rules.specs.Noting.{put, more}
-use Rattle.rules.specs.Records.{room}
+use Rattle.rules_surveys.specs.Noting.{put, more}
+use Rattle.rules_surveys.specs.Records.{room}
 use Rattle.fault_list.proofs.list.note.Statement.{statement}
 use Rattle.fault_list.proofs.list.note.Tie as tie
 

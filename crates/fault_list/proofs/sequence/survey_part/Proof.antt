@@ -3,9 +3,9 @@ use Prim.Native.Nat.{_-_, _≤_}
 use native.Mathlib.Omega.{arith}
 use borrow.Author.Needs.{needs}
 use Rattle.base.specs.Run.{run}
-use Rattle.rules.specs.Faults.{placeFaults}
-use Rattle.rules.specs.Noting.{Noted}
-use Rattle.rules.proofs.Records.{noted-start, noted-length}
+use Rattle.rules_surveys.specs.FaultLists.{placeFaults}
+use Rattle.rules_surveys.specs.Noting.{Noted}
+use Rattle.rules_surveys.proofs.Records.{noted-start, noted-length}
 use Rattle.fault_list.proofs.Noting.{block-asked, place-turn, places-done}
 use Rattle.fault_list.proofs.sequence.survey_part.Statement.{statement}
 use Rattle.fault_list.proofs.sequence.survey_part.Tie as tie

@@ -3,7 +3,7 @@ use Prim.Native.Nat.{_-_, _≤_}
 use native.Mathlib.Omega.{arith}
 use borrow.Author.Needs.{needs}
 use Rattle.base.specs.Run.{run}
-use Rattle.rules.specs.Faults.{placeFaults}
+use Rattle.rules_surveys.specs.FaultLists.{placeFaults}
 use Rattle.fault_list.proofs.Clear.{clean-start, bits-fit, clean-bits, clean-places}
 use Rattle.fault_list.specs.Asked.{Clean}
 use Rattle.first_fault.proofs.sequence.clean_part.Statement.{statement}

@@ -6,7 +6,7 @@ use native.Mathlib.Omega.{arith}
 use borrow.Author.Needs.{needs}
 use Rattle.base.specs.Run.{run}
 use Rattle.base.proofs.Runs.{run-zero}
-use Rattle.rules.specs.Faults.{placeFaults}
+use Rattle.rules_surveys.specs.FaultLists.{placeFaults}
 use Rattle.first_fault.proofs.Ends.{place-clean, place-ends, places-clean}
 use Rattle.first_fault.proofs.sequence.first_part.Statement.{statement}
 use Rattle.first_fault.proofs.sequence.first_part.Tie as tie

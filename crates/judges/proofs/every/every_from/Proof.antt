@@ -3,7 +3,7 @@ use mathlib.Core.Path.{_≡_}
 use Prim.Native.Nat.{_-_, _≤_}
 use native.Mathlib.Omega.{arith}
 use borrow.Author.Needs.{needs}
-use Rattle.rules.specs.Check.{everyFrom}
+use Rattle.rules_reads.specs.Check.{everyFrom}
 use Rattle.judges.specs.Tests.{testOf}
 use Rattle.judges.proofs.Turns.{from-turn, from-done, start-holds}
 use Rattle.judges.proofs.every.every_from.Statement.{statement}

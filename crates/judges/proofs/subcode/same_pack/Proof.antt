@@ -1,6 +1,6 @@
 -- `judges::subcode::same_pack` meets its contract: it is the definition's own expression. Assumes nothing.
 use mathlib.Core.Path.{refl}
-use Rattle.rules.specs.Time.{samePack}
+use Rattle.rules_reads.specs.Time.{samePack}
 use Rattle.judges.proofs.subcode.same_pack.Statement.{statement}
 use Rattle.judges.proofs.subcode.same_pack.Tie as tie
 

@@ -2,7 +2,7 @@
 use mathlib.Core.Path.{refl}
 use borrow.Author.Tests.{eq-eqb, ne-eqb}
 use Rattle.base.specs.Pick.{pick}
-use Rattle.rules.specs.Ids.{channelOf}
+use Rattle.rules_format.specs.Ids.{channelOf}
 use Rattle.layout.proofs.ids.channel.Statement.{statement}
 use Rattle.layout.proofs.ids.channel.Tie as tie
 

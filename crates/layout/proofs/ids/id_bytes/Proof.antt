@@ -2,8 +2,8 @@
 use mathlib.Core.Path.{refl}
 use native.Mathlib.Omega.{arith}
 use borrow.Author.Needs.{needs}
-use Rattle.rules.specs.Ids.{idBytes}
-use Rattle.rules.proofs.Places.{code-below}
+use Rattle.rules_format.specs.Ids.{idBytes}
+use Rattle.rules_format.proofs.Places.{code-below}
 use Rattle.layout.proofs.ids.id_bytes.Statement.{statement}
 use Rattle.layout.proofs.ids.id_bytes.Tie as tie
 

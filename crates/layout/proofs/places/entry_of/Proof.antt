@@ -1,7 +1,7 @@
 -- `layout::places::entry_of` meets its contract: by what the section is. Assumes nothing.
 use mathlib.Core.Path.{refl}
 use borrow.Author.Needs.{needs}
-use Rattle.rules.specs.Judging.{entryOf}
+use Rattle.rules_format.specs.Judging.{entryOf}
 use Rattle.layout.proofs.places.entry_of.Statement.{statement}
 use Rattle.layout.proofs.places.entry_of.Tie as tie
 

@@ -1,7 +1,7 @@
 -- `layout::places::place_in` meets its contract: section by section; the number is below 135. Assumes nothing.
 use native.Mathlib.Omega.{arith}
 use borrow.Author.Needs.{needs}
-use Rattle.rules.proofs.Places.{blocks-le}
+use Rattle.rules_format.proofs.Places.{blocks-le}
 use Rattle.layout.proofs.Placing.{past-way, header-way, subcode-way, vaux-way, audio-way, video-way}
 use Rattle.layout.proofs.places.place_in.Statement.{statement}
 use Rattle.layout.proofs.places.place_in.Tie as tie

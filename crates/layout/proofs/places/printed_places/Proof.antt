@@ -1,8 +1,8 @@
 -- The printed table is the rule's: one equation, which antt computes over the 150 entries. Assumes nothing.
 use mathlib.Core.Path.{refl}
 use Rattle.base.specs.Run.{run, tab}
-use Rattle.rules.specs.Places.{places, entryAt}
-use Rattle.rules.specs.Judging.{printedPlaces}
+use Rattle.rules_format.specs.Places.{places, entryAt}
+use Rattle.rules_format.specs.Judging.{printedPlaces}
 use Rattle.layout.proofs.places.printed_places.Statement.{statement}
 use Rattle.layout.proofs.places.printed_places.Tie as tie
 

@@ -2,7 +2,7 @@
 use mathlib.Core.Path.{refl}
 use borrow.Author.Tests.{ne-eqb}
 use Rattle.base.specs.Pick.{pick}
-use Rattle.rules.specs.Places.{sectionOf}
+use Rattle.rules_format.specs.Places.{sectionOf}
 use Rattle.layout.proofs.places.section_of.Statement.{statement}
 use Rattle.layout.proofs.places.section_of.Tie as tie
 

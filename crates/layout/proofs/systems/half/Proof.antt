@@ -1,7 +1,7 @@
 -- `layout::systems::half` meets its contract: n/2. Assumes nothing.
 use mathlib.Core.Path.{refl}
 use borrow.Author.Needs.{needs}
-use Rattle.rules.specs.Systems.{halfOf}
+use Rattle.rules_format.specs.Systems.{halfOf}
 use Rattle.layout.proofs.systems.half.Statement.{statement}
 use Rattle.layout.proofs.systems.half.Tie as tie
 

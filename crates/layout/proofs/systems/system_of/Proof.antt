@@ -2,7 +2,7 @@
 use mathlib.Core.Path.{refl}
 use borrow.Author.Tests.{ne-eqb}
 use Rattle.base.specs.Pick.{pick}
-use Rattle.rules.specs.Systems.{systemOf}
+use Rattle.rules_format.specs.Systems.{systemOf}
 use Rattle.layout.proofs.systems.system_of.Statement.{statement}
 use Rattle.layout.proofs.systems.system_of.Tie as tie
 

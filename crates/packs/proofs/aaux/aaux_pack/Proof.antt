@@ -1,7 +1,7 @@
 -- `packs::aaux::aaux_pack` meets its contract: one lemma for each way out. Assumes nothing.
 use native.Mathlib.Omega.{arith}
 use borrow.Author.Needs.{needs}
-use Rattle.rules.proofs.Aaux.{as-below}
+use Rattle.rules_packs.proofs.Aaux.{as-below}
 use Rattle.packs.proofs.Ways.{as-way, asc-way, aaux-none-way}
 use Rattle.packs.proofs.aaux.aaux_pack.Statement.{statement}
 use Rattle.packs.proofs.aaux.aaux_pack.Tie as tie

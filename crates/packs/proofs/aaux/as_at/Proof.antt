@@ -2,7 +2,7 @@
 use mathlib.Core.Path.{refl}
 use borrow.Author.Tests.{ne-eqb}
 use Rattle.base.specs.Pick.{pick}
-use Rattle.rules.specs.Aaux.{asAt}
+use Rattle.rules_packs.specs.Aaux.{asAt}
 use Rattle.packs.proofs.aaux.as_at.Statement.{statement}
 use Rattle.packs.proofs.aaux.as_at.Tie as tie
 

@@ -1,8 +1,8 @@
 -- `packs::aaux::as_pack` meets its contract: the bytes are the definition's, and fit since rate and size are small. Assumes nothing.
 use native.Mathlib.Omega.{arith}
 use borrow.Author.Needs.{needs}
-use Rattle.rules.proofs.Systems.{rate-below}
-use Rattle.rules.proofs.Aaux.{size-below}
+use Rattle.rules_format.proofs.Systems.{rate-below}
+use Rattle.rules_packs.proofs.Aaux.{size-below}
 use Rattle.packs.proofs.Ways.{as-made}
 use Rattle.packs.proofs.aaux.as_pack.Statement.{statement}
 use Rattle.packs.proofs.aaux.as_pack.Tie as tie

@@ -2,7 +2,7 @@
 use mathlib.Core.Path.{refl}
 use borrow.Author.Tests.{ne-eqb}
 use Rattle.base.specs.Pick.{pick}
-use Rattle.rules.specs.Aaux.{countOf}
+use Rattle.rules_packs.specs.Aaux.{countOf}
 use Rattle.packs.proofs.aaux.count_in.Statement.{statement}
 use Rattle.packs.proofs.aaux.count_in.Tie as tie
 

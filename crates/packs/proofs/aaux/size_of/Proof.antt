@@ -2,7 +2,7 @@
 use mathlib.Core.Path.{refl}
 use borrow.Author.Tests.{ne-eqb}
 use Rattle.base.specs.Pick.{pick}
-use Rattle.rules.specs.Aaux.{sizeOf}
+use Rattle.rules_packs.specs.Aaux.{sizeOf}
 use Rattle.packs.proofs.aaux.size_of.Statement.{statement}
 use Rattle.packs.proofs.aaux.size_of.Tie as tie
 

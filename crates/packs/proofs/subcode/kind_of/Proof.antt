@@ -1,7 +1,7 @@
 -- `packs::subcode::kind_of` meets its contract: position by position, and none elsewhere. Assumes nothing.
 use mathlib.Core.Path.{refl}
 use borrow.Author.Needs.{needs}
-use Rattle.rules.specs.Subcode.{kindOf}
+use Rattle.rules_packs.specs.Subcode.{kindOf}
 use Rattle.packs.proofs.Ways.{none-first, none-second}
 use Rattle.packs.proofs.subcode.kind_of.Statement.{statement}
 use Rattle.packs.proofs.subcode.kind_of.Tie as tie

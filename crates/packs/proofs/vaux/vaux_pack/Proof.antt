@@ -1,8 +1,8 @@
 -- `packs::vaux::vaux_pack` meets its contract: one lemma for each way out. Assumes nothing.
 use native.Mathlib.Omega.{arith}
 use borrow.Author.Needs.{needs}
-use Rattle.rules.proofs.Systems.{rate-below, stype-below}
-use Rattle.rules.proofs.Vaux.{vs-below}
+use Rattle.rules_format.proofs.Systems.{rate-below, stype-below}
+use Rattle.rules_packs.proofs.Vaux.{vs-below}
 use Rattle.packs.proofs.Ways.{vs-way, vsc-way, vaux-none-way}
 use Rattle.packs.proofs.vaux.vaux_pack.Statement.{statement}
 use Rattle.packs.proofs.vaux.vaux_pack.Tie as tie

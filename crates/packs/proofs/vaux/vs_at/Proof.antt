@@ -2,7 +2,7 @@
 use mathlib.Core.Path.{refl}
 use borrow.Author.Tests.{ne-eqb}
 use Rattle.base.specs.Pick.{pick}
-use Rattle.rules.specs.Vaux.{vsAt}
+use Rattle.rules_packs.specs.Vaux.{vsAt}
 use Rattle.packs.proofs.vaux.vs_at.Statement.{statement}
 use Rattle.packs.proofs.vaux.vs_at.Tie as tie
 

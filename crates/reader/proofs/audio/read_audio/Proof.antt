@@ -1,6 +1,6 @@
 -- `reader::audio::read_audio` meets its contract: one lemma for each way out; no block of a checked frame is lost. Assumes nothing.
 use borrow.Author.Needs.{needs}
-use Rattle.rules.proofs.Audio.{audio-stopped}
+use Rattle.rules_reads.proofs.Audio.{audio-stopped}
 use Rattle.reader.proofs.Ways.{prefix-lent, audio-refused-1, audio-ends, audio-heard}
 use Rattle.reader.proofs.audio.read_audio.Statement.{statement}
 use Rattle.reader.proofs.audio.read_audio.Tie as tie

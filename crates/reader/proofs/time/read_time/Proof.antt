@@ -1,6 +1,6 @@
 -- `reader::time::read_time` meets its contract: one lemma for each way out. Assumes nothing.
 use borrow.Author.Needs.{needs}
-use Rattle.rules.proofs.Time.{time-stopped}
+use Rattle.rules_reads.proofs.Time.{time-stopped}
 use Rattle.reader.proofs.Ways.{time-refused-1, time-answered}
 use Rattle.reader.proofs.time.read_time.Statement.{statement}
 use Rattle.reader.proofs.time.read_time.Tie as tie

@@ -1,7 +1,7 @@
 -- `reader::video::slot_start` meets its contract: the sum is the start, and 77 bytes end in the frame. Assumes nothing.
 use native.Mathlib.Omega.{arith}
 use borrow.Author.Needs.{needs}
-use Rattle.rules.proofs.Systems.{sequences-le}
+use Rattle.rules_format.proofs.Systems.{sequences-le}
 use Rattle.reader.proofs.Ways.{slot-small, start-is}
 use Rattle.reader.proofs.video.slot_start.Statement.{statement}
 use Rattle.reader.proofs.video.slot_start.Tie as tie

@@ -6,8 +6,8 @@ use lib.ListN.{length}
 use borrow.Author.Needs.{needs}
 use Rattle.base.specs.Run.{run}
 use Rattle.base.proofs.Filling.{Filled}
-use Rattle.rules.specs.Noting.{Noted}
-use Rattle.rules.proofs.Records.{noted-start, noted-length}
+use Rattle.rules_surveys.specs.Noting.{Noted}
+use Rattle.rules_surveys.proofs.Records.{noted-start, noted-length}
 use Rattle.rescue.specs.Taken.{halfSamples, halfFaults}
 use Rattle.rescue.proofs.Whole.{all-none, end-fits, start-fits, bytes-fit, half-within, half-room, half-filled, half-asked, half-noted, all-salvaged}
 use Rattle.rescue.proofs.call.salvage_all.Statement.{statement}

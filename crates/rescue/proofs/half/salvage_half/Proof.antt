@@ -3,9 +3,9 @@ use Prim.Native.Nat.{_+_, _-_, _*_, _≤_}
 use native.Mathlib.Omega.{arith}
 use borrow.Author.Needs.{needs}
 use Rattle.base.specs.Run.{run}
-use Rattle.rules.specs.Systems.{halfOf}
-use Rattle.rules.specs.Noting.{Noted}
-use Rattle.rules.proofs.Records.{noted-start, noted-turn, noted-length}
+use Rattle.rules_format.specs.Systems.{halfOf}
+use Rattle.rules_surveys.specs.Noting.{Noted}
+use Rattle.rules_surveys.proofs.Records.{noted-start, noted-turn, noted-length}
 use Rattle.sequence_samples.specs.Taken.{Between}
 use Rattle.rescue.specs.Taken.{heldSample, rankFaults}
 use Rattle.rescue.proofs.Halving.{rank-asked, rank-few, half-none, half-turn, half-salvaged}

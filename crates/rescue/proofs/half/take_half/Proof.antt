@@ -2,7 +2,7 @@
 use Prim.Native.Nat.{_+_, _-_, _*_, _≤_}
 use native.Mathlib.Omega.{arith}
 use borrow.Author.Needs.{needs}
-use Rattle.rules.specs.Systems.{halfOf}
+use Rattle.rules_format.specs.Systems.{halfOf}
 use Rattle.sequence_samples.specs.Taken.{Between}
 use Rattle.rescue.specs.Taken.{heldSample}
 use Rattle.rescue.proofs.Halving.{rank-asked, half-none, half-turn, half-taken}

@@ -4,11 +4,11 @@ use Prim.Native.Nat.{ℕ, _%_}
 use native.Mathlib.Nat.{mod-lt}
 use native.Mathlib.Omega.{arith}
 use borrow.Author.Needs.{needs}
-use Rattle.rules.specs.declared.System.{System}
-use Rattle.rules.specs.Systems.{halfOf}
-use Rattle.rules.specs.Sound.{firstAt}
-use Rattle.rules.proofs.Systems.{half-cases}
-use Rattle.rules.proofs.Sound.{Half, half-some}
+use Rattle.paper.specs.declared.System.{System}
+use Rattle.rules_format.specs.Systems.{halfOf}
+use Rattle.rules_format.specs.Sound.{firstAt}
+use Rattle.rules_format.proofs.Systems.{half-cases}
+use Rattle.rules_format.proofs.Sound.{Half, half-some}
 use Rattle.sound.specs.Asked.{First}
 use Rattle.sound.proofs.places.first_at.Statement.{statement}
 use Rattle.sound.proofs.places.first_at.Tie as tie

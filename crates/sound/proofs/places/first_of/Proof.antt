@@ -2,8 +2,8 @@
 use Prim.Native.Nat.{_<_, _≤_, _*_}
 use native.Mathlib.Omega.{arith}
 use borrow.Author.Needs.{needs}
-use Rattle.rules.specs.Sound.{firstAt}
-use Rattle.rules.proofs.Sound.{first-below, half-ge, half-le}
+use Rattle.rules_format.specs.Sound.{firstAt}
+use Rattle.rules_format.proofs.Sound.{first-below, half-ge, half-le}
 use Rattle.sound.proofs.places.first_of.Statement.{statement}
 use Rattle.sound.proofs.places.first_of.Tie as tie
 

@@ -10,7 +10,7 @@ use lib.Seq.{drop-cons}
 use mir.Syntax.{w32}
 use mir.ValLaws.{toZ-ofZ}
 use borrow.Author.Needs.{needs}
-use Rattle.rules.specs.Samples.{inRange, allInRange}
+use Rattle.rules_format.specs.Samples.{inRange, allInRange}
 use Rattle.sound.proofs.range.all_in_range.Statement.{statement}
 use Rattle.sound.proofs.range.all_in_range.Tie as tie
 

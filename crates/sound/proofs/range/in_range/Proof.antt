@@ -2,7 +2,7 @@
 use mathlib.Core.Path.{refl}
 use mir.Syntax.{w32}
 use mir.ValLaws.{toZ-ofZ}
-use Rattle.rules.specs.Samples.{inRange}
+use Rattle.rules_format.specs.Samples.{inRange}
 use Rattle.sound.proofs.range.in_range.Statement.{statement}
 use Rattle.sound.proofs.range.in_range.Tie as tie
 

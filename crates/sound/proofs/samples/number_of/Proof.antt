@@ -4,7 +4,7 @@ use mir.ValLaws.{toZ-ofZ}
 use mir.Syntax.{w16, w32}
 use mir.Val.{SFits}
 use borrow.Author.Needs.{needs}
-use Rattle.rules.specs.Samples.{numberOf}
+use Rattle.rules_format.specs.Samples.{numberOf}
 use Rattle.sound.proofs.Signed.{wider}
 use Rattle.sound.proofs.samples.number_of.Statement.{statement}
 use Rattle.sound.proofs.samples.number_of.Tie as tie

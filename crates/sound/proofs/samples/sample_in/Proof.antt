@@ -12,9 +12,9 @@ use borrow.Author.Needs.{needs}
 use borrow.Author.Tests.{leb-true, lt-leb, not-true, not-false}
 use Rattle.base.specs.Pick.{pick}
 use Rattle.base.proofs.Picks.{both-held}
-use Rattle.rules.specs.declared.SampleNumber.the-variants.{Sampled, NoSample}
-use Rattle.rules.specs.declared.Sample.the-variants.{Level, Lost}
-use Rattle.rules.specs.Samples.{inRange, sampleIn}
+use Rattle.paper.specs.declared.SampleNumber.the-variants.{Sampled, NoSample}
+use Rattle.paper.specs.declared.Sample.the-variants.{Level, Lost}
+use Rattle.rules_format.specs.Samples.{inRange, sampleIn}
 use Rattle.sound.proofs.Signed.{of-bits}
 use Rattle.sound.proofs.samples.sample_in.Statement.{statement}
 use Rattle.sound.proofs.samples.sample_in.Tie as tie

@@ -6,8 +6,8 @@ use mir.ValLaws.{toZ-ofZ}
 use borrow.Author.Tests.{eq-eqb, ne-eqb}
 use borrow.Author.Needs.{needs, sfits-of}
 use Rattle.base.specs.Pick.{pick}
-use Rattle.rules.specs.declared.Sample.the-variants.{Lost}
-use Rattle.rules.specs.Samples.{sampleOf}
+use Rattle.paper.specs.declared.Sample.the-variants.{Lost}
+use Rattle.rules_format.specs.Samples.{sampleOf}
 use Rattle.sound.proofs.samples.sample_of.Statement.{statement}
 use Rattle.sound.proofs.samples.sample_of.Tie as tie
 

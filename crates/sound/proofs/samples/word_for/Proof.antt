@@ -3,7 +3,7 @@ use mathlib.Core.Path.{_≡_, sym, ap, _∙_}
 use mir.Syntax.{w32}
 use mir.ValLaws.{toZ-ofZ}
 use borrow.Author.Needs.{needs}
-use Rattle.rules.specs.Samples.{sampleIn, wordIn}
+use Rattle.rules_format.specs.Samples.{sampleIn, wordIn}
 use Rattle.sound.proofs.samples.word_for.Statement.{statement}
 use Rattle.sound.proofs.samples.word_for.Tie as tie
 

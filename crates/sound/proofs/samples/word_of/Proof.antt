@@ -6,7 +6,7 @@ use mir.ValLaws.{toZ-ofZ}
 use borrow.Author.Tests.{eq-eqb, ne-eqb}
 use borrow.Author.Needs.{needs}
 use Rattle.base.specs.Pick.{pick}
-use Rattle.rules.specs.Samples.{wordOf}
+use Rattle.rules_format.specs.Samples.{wordOf}
 use Rattle.sound.proofs.samples.word_of.Statement.{statement}
 use Rattle.sound.proofs.samples.word_of.Tie as tie
 

@@ -4,10 +4,10 @@ use Prim.Native.Nat.{_*_, _-_, _≤_}
 use native.Mathlib.Omega.{arith}
 use borrow.Author.Needs.{needs}
 use Rattle.base.specs.Run.{run}
-use Rattle.rules.specs.Faults.{channelFaults}
-use Rattle.rules.specs.Noting.{Noted}
-use Rattle.rules.specs.Systems.{sequencesOf}
-use Rattle.rules.proofs.Records.{noted-start, noted-length}
+use Rattle.rules_surveys.specs.FaultLists.{channelFaults}
+use Rattle.rules_surveys.specs.Noting.{Noted}
+use Rattle.rules_format.specs.Systems.{sequencesOf}
+use Rattle.rules_surveys.proofs.Records.{noted-start, noted-length}
 use Rattle.surveys.proofs.Channels.{channel-asked, channel-turn, next-start, next-small, channels-done}
 use Rattle.surveys.proofs.frame.survey_all.Statement.{statement}
 use Rattle.surveys.proofs.frame.survey_all.Tie as tie

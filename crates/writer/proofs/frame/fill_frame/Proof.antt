@@ -5,9 +5,9 @@ use native.Mathlib.Omega.{arith}
 use lib.ListN.{length}
 use borrow.Author.Needs.{needs}
 use Rattle.base.proofs.Filling.{Filled}
-use Rattle.rules.specs.Systems.{sequencesOf}
-use Rattle.rules.specs.Written.{writtenChannel}
-use Rattle.rules.specs.Write.{contentsOf}
+use Rattle.rules_format.specs.Systems.{sequencesOf}
+use Rattle.rules_writes.specs.Written.{writtenChannel}
+use Rattle.rules_writes.specs.Write.{contentsOf}
 use Rattle.writer.proofs.Whole.{size-fits, start-fits, end-fits, channel-within, channel-part-asked, frame-none, frame-turn, frame-done}
 use Rattle.writer.proofs.frame.fill_frame.Statement.{statement}
 use Rattle.writer.proofs.frame.fill_frame.Tie as tie

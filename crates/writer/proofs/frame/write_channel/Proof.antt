@@ -5,9 +5,9 @@ use native.Mathlib.Omega.{arith}
 use lib.ListN.{length}
 use borrow.Author.Needs.{needs}
 use Rattle.base.proofs.Filling.{Filled, filled-none}
-use Rattle.rules.specs.Systems.{sequencesOf}
-use Rattle.rules.specs.Written.{writtenSequence}
-use Rattle.rules.specs.Write.{contentsOf}
+use Rattle.rules_format.specs.Systems.{sequencesOf}
+use Rattle.rules_writes.specs.Written.{writtenSequence}
+use Rattle.rules_writes.specs.Write.{contentsOf}
 use Rattle.writer.proofs.Whole.{sequence-next, sequence-asked, channel-turn, channel-done}
 use Rattle.writer.proofs.frame.write_channel.Statement.{statement}
 use Rattle.writer.proofs.frame.write_channel.Tie as tie

@@ -4,7 +4,7 @@ use Prim.Native.Nat.{_+_, _-_, _≤_}
 use native.Mathlib.Omega.{arith}
 use lib.ListN.{length}
 use borrow.Author.Needs.{needs}
-use Rattle.rules.specs.Write.{contentsOf}
+use Rattle.rules_writes.specs.Write.{contentsOf}
 use Rattle.writer.specs.Asked.{Begun}
 use Rattle.writer.proofs.Whole.{subcode-ends, subcodes-turn, subcodes-done}
 use Rattle.writer.proofs.sequence.write_subcodes.Statement.{statement}

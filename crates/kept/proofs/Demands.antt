@@ -1,0 +1,196 @@
+-- The promises are kept, of any answer that the contracts of the public calls allow. Each theorem cites its workshop; what it says is in crate `promises`
+-- (`Demand1`, `Demand2`, `Demand3`; `Refusals`, `Form`), in the words of crate `paper`. Assumes nothing.
+use mathlib.Core.Path.{_≡_, refl, sym, _∙_}
+use mathlib.Core.Bool.{true, false}
+use mathlib.Core.List.{List, [], _∷_, _++_}
+use Prim.Native.Nat.{ℕ, _+_, _*_, _<_}
+use lib.Dec.{T}
+use lib.IntN.{ℤ, pos}
+use lib.ListN.{length}
+use Rattle.base.specs.Pick.{pick}
+use Rattle.base.specs.Run.{run}
+use Rattle.base.specs.Calls.{Refusal, firstOf, _when_, ExactlyOne}
+use Rattle.base.proofs.Picks.{pick-true, pick-false, first-here, first-next}
+use Rattle.base.proofs.Runs.{run-zero, run-more}
+use Rattle.paper.specs.declared.Place.{Place}
+use Rattle.paper.specs.declared.IdAnswer.{IdAnswer}
+use Rattle.paper.specs.declared.IdValues.{IdValues}
+use Rattle.paper.specs.declared.Part.{Part}
+use Rattle.paper.specs.declared.Survey.{Survey}
+use Rattle.rules_surveys.specs.ReadId.{IdRead, IdSaid}
+use Rattle.rules_surveys.specs.Survey.{FrameSurveyed, SequenceSurveyed}
+use Rattle.rules_surveys.specs.View.{ViewNumbered, Viewed, ViewLies}
+use Rattle.rules_reads.specs.Macroblock.{MacroblockLies}
+use Rattle.rules_surveys.specs.Salvage.{Salvaged}
+use Rattle.promises.specs.Contents.{Contents}
+use Rattle.rules_writes.specs.Write.{Wrote}
+use Rattle.rules_picture.specs.Rows.{rowsAgree, printedRows}
+use Rattle.rules_format.specs.Known.{all, table}
+use Rattle.paper.specs.Paper.{sequences, positions, macroblocks, streamFault}
+use Rattle.paper.specs.Bytes.{OwnCount}
+use Rattle.rules_format.specs.InNumbers.{InNumbers}
+use Rattle.kept.specs.EveryCall.{EveryCall}
+use Rattle.promises.specs.Demand2.{IdOut, ViewOut, MacroblockOut, Strict, ReadOut, GoesThrough, LaidOut, ReadsBack, WritesBack, tone}
+use Rattle.rules_reads.specs.Strict.{StrictlyRead}
+use Rattle.promises.specs.Demand3.{SampleSalvaged, Listed, Salvages}
+use Rattle.kept.proofs.Deciding.{ids-decided, views-decided, macroblocks-decided, reads-decided}
+use Rattle.kept.proofs.WritingBack.{writes-back, strict-decided, frame-decided}
+use Rattle.rules_surveys.proofs.Listing.{same-listed}
+use Rattle.kept.proofs.Salvaging.{salvages, salvage-decided}
+use Rattle.kept.proofs.Worthless.{tone-taken, one-for-two, frame-for-two, all-lost}
+use Rattle.rules_format.proofs.Headlines as format
+use Rattle.rules_picture.proofs.Headlines as picture
+use Rattle.rules_packs.proofs.Headlines as packs
+use Rattle.promises.proofs.Headlines as promised
+use Rattle.rules_surveys.proofs.Headlines as surveys
+use Rattle.rules_reads.proofs.Headlines as reads
+use Rattle.rules_writes.proofs.Headlines as writes
+use Rattle.rules_picture.specs.Slots.{SlotsInNumbers}
+use Rattle.rules_packs.specs.InBytes.{InBytes}
+use Rattle.rules_format.specs.Systems.{systemOf}
+use Rattle.paper.specs.declared.System.{System}
+use Rattle.paper.specs.declared.SystemNumber.the-variants.{Known}
+
+-- ---- the rules, each in its own crate: the known places of document 01, the printed rows of tables 22 to 24, and the definitions in document 01's numbers
+-- and bytes
+
+pub known-places : T (all table)
+known-places = format.known-places
+
+pub printed-rows : T (rowsAgree printedRows)
+printed-rows = picture.printed-rows
+
+pub format-in-numbers : InNumbers
+format-in-numbers = format.format-in-numbers
+
+pub slots-in-numbers : SlotsInNumbers
+slots-in-numbers = picture.slots-in-numbers
+
+pub packs-in-bytes : (k : ℕ) (y : System) → systemOf k ≡ Known y → InBytes k y
+packs-in-bytes = packs.packs-in-bytes
+
+-- the words of `base` in the statements: one of two by a test, the first row that holds, part after part, one outcome
+pub picks : {A : Type 0} (a b : A) → (pick true a b ≡ a) × (pick false a b ≡ b)
+picks a b = (pick-true a b refl, pick-false a b refl)
+
+pub firsts : (k : ℕ) (rows : List Refusal) → (firstOf [] ≡ 0) × (firstOf (k when true ∷ rows) ≡ k) × (firstOf (k when false ∷ rows) ≡ firstOf rows)
+unfolding firstOf
+firsts k rows = (refl, first-here true k rows refl, first-next false k rows refl)
+
+pub runs : {A : Type 0} (f : ℕ → List A) (m : ℕ) → (run f 0 ≡ []) × (run f (m + 1) ≡ run f m ++ f m)
+runs f m = (run-zero f, run-more f m)
+
+pub exactly-one : {A : Type 0} {P : A → Type 0} (one : ExactlyOne A P) → P (one .outcome) × ((o o′ : A) → P o → P o′ → o ≡ o′)
+exactly-one one = (one .meets, λ o o′ m m′. one .only o m ∙ sym (one .only o′ m′))
+
+-- ---- 1: every public call, on every input
+
+pub demand-1 : EveryCall
+demand-1 = record {
+  read-id = surveys.read-id-answers;
+  id-values = surveys.id-values-answers;
+  survey = surveys.survey-answers;
+  survey-sequence = surveys.sequence-answers;
+  view = surveys.view-answers;
+  view-at = surveys.view-at-answers;
+  check-frame = reads.check-answers;
+  read-audio = reads.audio-answers;
+  macroblock = reads.macroblock-answers;
+  macroblock-at = reads.macroblock-at-answers;
+  read-time = reads.time-answers;
+  salvage = surveys.salvage-answers;
+  write-frame = writes.write-answers;
+}
+
+-- ---- 2: whatever is read; and whatever is read out so is what our reads answer
+
+pub demand-2-ids : {id : List ℕ} {o : IdAnswer} {v : IdValues} → IdRead id o → IdSaid id v → IdOut id o v
+demand-2-ids = surveys.ids-out
+
+pub demand-2-ids-decide : {id : List ℕ} {o o′ : IdAnswer} {v v′ : IdValues} → IdRead id o → IdSaid id v → IdOut id o′ v′ → (o′ ≡ o) × (v′ ≡ v)
+demand-2-ids-decide = ids-decided
+
+pub demand-2-views : {k : ℕ} {f : List ℕ} {h q : ℕ} {p : Place} {number : ℕ} {part : List ℕ} {r : Part} → ViewNumbered k f h q p number
+    → Viewed k f h q p part → ViewLies k f h q p r → ViewOut k f h q p number part r
+demand-2-views = surveys.views-out
+
+pub demand-2-views-decide : {k : ℕ} {f : List ℕ} {h q : ℕ} {p : Place} {part part′ : List ℕ} {r r′ : Part} → ViewNumbered k f h q p 0
+    → Viewed k f h q p part → ViewLies k f h q p r → r′ .number ≡ 0 → ViewOut k f h q p 0 part′ r′ → (part′ ≡ part) × (r′ ≡ r)
+demand-2-views-decide = views-decided
+
+pub demand-2-macroblocks : {k : ℕ} {f : List ℕ} {b : ℕ} {r : Part} → MacroblockLies k f b r → MacroblockOut k f b r
+demand-2-macroblocks = reads.macroblocks-out
+
+pub demand-2-macroblocks-decide : {k : ℕ} {f : List ℕ} {b : ℕ} {r r′ : Part} → MacroblockLies k f b r → r .number ≡ 0 → r′ .number ≡ 0
+    → MacroblockOut k f b r′ → r′ ≡ r
+demand-2-macroblocks-decide = macroblocks-decided
+
+pub demand-2-reads : {k : ℕ} {f : List ℕ} {c : ℕ} {samples : List ℤ} {b : ℕ} {o : Strict} → StrictlyRead k f c samples b o → ReadOut k f c samples b o
+demand-2-reads = reads.reads-out
+
+pub demand-2-reads-decide : {k : ℕ} {f : List ℕ} {c : ℕ} {samples : List ℤ} {b : ℕ} {o o′ : Strict} → StrictlyRead k f c samples b o → GoesThrough o
+    → GoesThrough o′ → ReadOut k f c samples b o′ → o′ ≡ o
+demand-2-reads-decide = reads-decided
+
+-- f is a frame that our writer made of l
+module _ {k : ℕ} {l : Contents} {frame f : List ℕ} (wrote : Wrote k l frame 0 f) where
+  pub demand-2 : WritesBack StrictlyRead k l f
+  demand-2 = writes-back wrote
+
+  -- whatever is laid out so is our frame, and whatever reads back is what our reads answer
+  pub demand-2-frame : {g : List ℕ} → LaidOut k l g → g ≡ f
+  demand-2-frame = frame-decided wrote
+
+  pub demand-2-decides : {c : ℕ} {samples : List ℤ} {b : ℕ} {o o′ : Strict} → 0 < c → c < 9 → length samples ≡ positions k → b < macroblocks k
+      → StrictlyRead k f c samples b o → ReadsBack l c samples b o′ → o′ ≡ o
+  demand-2-decides = strict-decided wrote
+
+  -- ---- 3: g is any frame of its length, salvaged under the same system
+
+  pub demand-3 : {g list list′ : List ℕ} {samples samples′ : List ℤ} {r : Survey} → length g ≡ length f → length samples ≡ 8 * positions k
+      → Salvaged k g samples list r samples′ list′ → Salvages k l f g list r samples′ list′
+  demand-3 = salvages wrote
+
+  -- whatever salvages so is what ours gives
+  pub demand-3-decides : {g list list′ list″ : List ℕ} {samples samples′ samples″ : List ℤ} {r r″ : Survey} → length g ≡ length f
+      → length samples ≡ 8 * positions k → Salvaged k g samples list r samples′ list′ → Salvages k l f g list r″ samples″ list″
+      → (r″ ≡ r) × (samples″ ≡ samples′) × (list″ ≡ list′)
+  demand-3-decides = salvage-decided wrote
+
+-- the surveys of a frame and of one sequence keep the same list
+pub demand-3-surveys : (k : ℕ) {frame list list′ : List ℕ} {r : Survey} → FrameSurveyed k frame list r list′ → r .number ≡ 0
+    → Listed (sequences k) frame 0 (600 * sequences k) list r list′
+demand-3-surveys = surveys.surveys-listed
+
+pub demand-3-sequences : (k h q : ℕ) {sequence list list′ : List ℕ} {r : Survey} → SequenceSurveyed k h q sequence list r list′ → r .number ≡ 0
+    → Listed (sequences k) sequence ((sequences k * h + q) * 150) 150 list r list′
+demand-3-sequences = surveys.sequences-listed
+
+-- "Salvage and survey give the same list, total and kept for the same frame."
+pub demand-3-same : (k : ℕ) {frame : List ℕ} {samples samples′ : List ℤ} {list list₁ list₂ : List ℕ} {r r′ : Survey}
+    → Salvaged k frame samples list r samples′ list₁ → FrameSurveyed k frame list r′ list₂ → r .number ≡ 0 → r′ .number ≡ 0 → (r ≡ r′) × (list₁ ≡ list₂)
+demand-3-same = same-listed
+
+-- a survey that counts none has seen every block name its place
+pub not-coasting : {n first m : ℕ} {bytes list list′ : List ℕ} {r : Survey} → Listed n bytes first m list r list′ → r .total ≡ 0 → (j : ℕ) → j < m
+    → streamFault n bytes j (first + j) ≡ 0
+not-coasting = promised.not-coasting
+
+-- ---- the premises can be met, for each system and count; and what the demands refute
+
+module _ (k : ℕ) (below : k < 4) (count : ℕ) (own : OwnCount k count) where
+  pub not-all-refused : {frame f : List ℕ} {r : ℕ} → length frame ≡ 48000 * sequences k → Wrote k (tone k count 5) frame r f → r ≡ 0
+  not-all-refused = tone-taken k below count own
+
+  pub not-one-answer : (c : ℕ) {samples : List ℤ} {b : ℕ} {o : Strict} → 0 < c → c < 9 → ReadsBack (tone k count 5) c samples b o
+      → ReadsBack (tone k count 6) c samples b o → ⊥
+  not-one-answer = one-for-two k below count own
+
+  pub not-one-frame : {frame frame′ f : List ℕ} → Wrote k (tone k count 5) frame 0 f → Wrote k (tone k count 6) frame′ 0 f → ⊥
+  not-one-frame = frame-for-two k below count own
+
+  pub not-empty-writer : {frame : List ℕ} → Wrote k (tone k count 5) frame 0 frame → Wrote k (tone k count 6) frame 0 frame → ⊥
+  not-empty-writer = frame-for-two k below count own
+
+  pub not-all-lost : (c t : ℕ) → 0 < c → c < 9 → t < count → {f : List ℕ} → SampleSalvaged (sequences k) (tone k count 5) f f c t (pos 32768) → ⊥
+  not-all-lost c t c1 c8 ht = all-lost k count c t c1 c8 ht

@@ -1,0 +1,57 @@
+-- What an edit of a promise is refused by: each statement leaves one answer, so that a clause that is weakened is noticed. Assumes nothing.
+use mathlib.Core.Path.{_≡_}
+use mathlib.Core.List.{List}
+use Prim.Native.Nat.{ℕ, _+_, _<_}
+use lib.IntN.{ℤ}
+use Rattle.promises.specs.Contents.{Contents}
+use Rattle.paper.specs.Paper.{macroblocks, streamFault}
+use Rattle.promises.specs.Demand2.{Strict, ReadsBack, IdOut, ViewOut, MacroblockOut, ReadOut, GoesThrough, LaidOut}
+use Rattle.paper.specs.declared.Survey.{Survey}
+use Rattle.promises.specs.Demand3.{Listed, Salvages}
+use Rattle.rules_format.proofs.Paper.{known-system}
+use Rattle.promises.proofs.One.{listed-one, ids-one, views-one, macroblocks-one, reads-one, reads-back-one, salvages-one, coasting}
+use Rattle.paper.specs.declared.Place.{Place}
+use Rattle.paper.specs.declared.IdAnswer.{IdAnswer}
+use Rattle.paper.specs.declared.IdValues.{IdValues}
+use Rattle.paper.specs.declared.Part.{Part}
+use Rattle.promises.proofs.LaidOut.{laid-out-one}
+
+-- ---- 2: what is read
+
+pub one-id : {id : List ℕ} {o o′ : IdAnswer} {v v′ : IdValues} → IdOut id o v → IdOut id o′ v′ → (o ≡ o′) × (v ≡ v′)
+one-id = ids-one
+
+pub one-view : {k : ℕ} {f : List ℕ} {h q : ℕ} {p : Place} {part part′ : List ℕ} {r r′ : Part} → r .number ≡ 0 → r′ .number ≡ 0
+    → ViewOut k f h q p 0 part r → ViewOut k f h q p 0 part′ r′ → (part ≡ part′) × (r ≡ r′)
+one-view = views-one
+
+pub one-macroblock : {k : ℕ} {f : List ℕ} {b : ℕ} {r r′ : Part} → b < macroblocks k → r .number ≡ 0 → r′ .number ≡ 0 → MacroblockOut k f b r
+    → MacroblockOut k f b r′ → r ≡ r′
+one-macroblock = macroblocks-one
+
+pub one-read : {k : ℕ} {f : List ℕ} {c : ℕ} {samples : List ℤ} {b : ℕ} {o o′ : Strict} → b < macroblocks k → GoesThrough o → GoesThrough o′
+    → ReadOut k f c samples b o → ReadOut k f c samples b o′ → o ≡ o′
+one-read = reads-one
+
+-- ---- 2: what is written, and reads back
+
+pub one-frame : {k : ℕ} → k < 4 → {l : Contents} {f g : List ℕ} → LaidOut k l f → LaidOut k l g → f ≡ g
+one-frame {k} below {l} {f} {g} a b = known-system k below (λ y known. laid-out-one k y known l f g a b)
+
+pub one-back : {l : Contents} {c : ℕ} {samples : List ℤ} {b : ℕ} {o o′ : Strict} → ReadsBack l c samples b o → ReadsBack l c samples b o′ → o ≡ o′
+one-back = reads-back-one
+
+-- ---- 3: the fault list, and what is salvaged
+
+pub one-list : {n first m : ℕ} {bytes list list₁ list₂ : List ℕ} {r r′ : Survey} → Listed n bytes first m list r list₁ → Listed n bytes first m list r′ list₂
+    → r .number ≡ r′ .number → (r ≡ r′) × (list₁ ≡ list₂)
+one-list = listed-one
+
+pub one-salvage : {k : ℕ} {l : Contents} {f g list list₁ list₂ : List ℕ} {r r′ : Survey} {samples samples′ : List ℤ} → Salvages k l f g list r samples list₁
+    → Salvages k l f g list r′ samples′ list₂ → (r ≡ r′) × (samples ≡ samples′) × (list₁ ≡ list₂)
+one-salvage = salvages-one
+
+-- a survey that counts none has seen every block name its place
+pub not-coasting : {n first m : ℕ} {bytes list list′ : List ℕ} {r : Survey} → Listed n bytes first m list r list′ → r .total ≡ 0 → (j : ℕ) → j < m
+    → streamFault n bytes j (first + j) ≡ 0
+not-coasting = coasting

@@ -1,0 +1,5 @@
+pub mod Tables
+pub mod Answering
+pub mod LaidOut
+pub mod One
+pub mod Headlines

@@ -1,0 +1,99 @@
+-- Laws of refusal tables: a table gives exactly the number that a list of tests comes to. Assumes nothing.
+use mathlib.Core.Path.{_≡_, refl, sym, subst, _∙_, ap}
+use mathlib.Core.Bool.{Bool, true, false, not}
+use mathlib.Core.List.{List, [], _∷_}
+use mathlib.Core.Logic.{inl, inr, ⊎-elim, _≢_, _⊎_}
+use Prim.Native.Nat.{ℕ, _<_, _*_}
+use native.Mathlib.Omega.{arith}
+use lib.Dec.{eqb}
+use borrow.Author.Tests.{eq-eqb, ne-eqb, eqb-true, eqb-false, not-true, not-false}
+use Rattle.base.specs.Calls.{Refusal, firstOf, _when_}
+use Rattle.base.proofs.Cases.{by-bool, by-eq}
+use Rattle.base.proofs.Picks.{first-here, first-next}
+use Rattle.paper.specs.declared.System.{System}
+use Rattle.paper.specs.declared.SystemNumber.{SystemNumber}
+use Rattle.paper.specs.declared.SystemNumber.the-variants.{Known, NoSystem}
+use Rattle.rules_format.specs.Systems.{systemOf, isNoSystem, sequencesOf}
+use Rattle.promises.specs.Refusals.{Table, _if_, _else_, none}
+use Rattle.rules_format.proofs.Paper.{known-below, none-above, columns}
+use Rattle.paper.specs.Paper.{sequences}
+
+-- the table gives n, and no other number
+pub record Exactly (table : Table) (n : ℕ) : Type 0 where
+  pub gives : table n
+  pub only : (r : ℕ) → table r → r ≡ n
+
+pub exactly-none : Exactly none (firstOf [])
+unfolding firstOf
+exactly-none = record { gives = refl; only = λ r e. e }
+
+-- a row that gives a number, and one that gives none
+exactly-here : (row rows : Table) (n : ℕ) → row n → ((r : ℕ) → row r → r ≡ n) → Exactly (row else rows) n
+exactly-here row rows n here one = record { gives = inl here; only = λ r. ⊎-elim (one r) (λ past. absurd (past .0 n here)) }
+
+exactly-past : (row rows : Table) (n : ℕ) → ((r : ℕ) → row r → ⊥) → Exactly rows n → Exactly (row else rows) n
+exactly-past row rows n never e = record { gives = inr (never, e .gives); only = λ r. ⊎-elim (λ here. absurd (never r here)) (λ past. e .only r (past .1)) }
+
+-- ---- a row of a list of tests
+
+-- what it is given for holds exactly where the test does
+pub row-exactly : {Holds : Type 0} (number : ℕ) (b : Bool) (table : Table) (rows : List Refusal) → (b ≡ true → Holds) → (b ≡ false → Holds → ⊥)
+    → (b ≡ false → Exactly table (firstOf rows)) → Exactly (number if Holds else table) (firstOf (number when b ∷ rows))
+row-exactly {Holds} number b table rows holds not-holds rest =
+    by-bool b
+    (λ e.
+    subst (Exactly (number if Holds else table)) (sym (first-here b number rows e))
+    (exactly-here (number if Holds) table number (refl, holds e) (λ r given. given .0)))
+    (λ e.
+    subst (Exactly (number if Holds else table)) (sym (first-next b number rows e))
+    (exactly-past (number if Holds) table (firstOf rows) (λ r given. not-holds e (given .1)) (rest e)))
+
+-- given where two numbers differ; the table has the second in other words
+pub row-differs : (number a b b′ : ℕ) (table : Table) (rows : List Refusal) → b′ ≡ b → (a ≡ b → Exactly table (firstOf rows))
+    → Exactly (number if (a ≢ b′) else table) (firstOf (number when not (eqb a b) ∷ rows))
+row-differs number a b b′ table rows same rest =
+    row-exactly number (not (eqb a b)) table rows
+    (λ e z. eqb-false a b (not-true _ e) (z ∙ same))
+    (λ e d. d (eqb-true a b (not-false _ e) ∙ sym same))
+    (λ e. rest (eqb-true a b (not-false _ e)))
+
+-- given for a fault, by its own number
+pub row-fault : (row table : Table) (x : ℕ) (rows : List Refusal) → (x ≢ 0 → row x) → ((r : ℕ) → row r → (r ≢ 0) × (r ≡ x)) → (x ≡ 0 → Exactly table (firstOf rows))
+    → Exactly (row else table) (firstOf (x when not (eqb x 0) ∷ rows))
+row-fault row table x rows given one rest =
+    by-eq x 0
+    (λ z.
+    subst (Exactly (row else table)) (sym (first-next _ x rows (off z)))
+    (exactly-past row table (firstOf rows) (λ r g. one r g .0 (one r g .1 ∙ z)) (rest z)))
+    (λ d.
+    subst (Exactly (row else table)) (sym (first-here _ x rows (on d)))
+    (exactly-here row table x (given d) (λ r g. one r g .1)))
+  where
+    off : x ≡ 0 → not (eqb x 0) ≡ false
+    off z = rw (eq-eqb x 0 z) refl
+
+    on : x ≢ 0 → not (eqb x 0) ≡ true
+    on d = rw (ne-eqb x 0 d) refl
+
+-- 1: "system above 3"
+pub row-system : (k : ℕ) (table : Table) (rows : SystemNumber → List Refusal) → ((y : System) → systemOf k ≡ Known y → Exactly table (firstOf (rows (Known y))))
+    → Exactly (1 if (3 < k) else table) (firstOf (1 when isNoSystem (systemOf k) ∷ rows (systemOf k)))
+row-system k table rows rest = by-number (systemOf k) refl
+  where
+    no-true : isNoSystem NoSystem ≡ false → ⊥
+    no-true t = let z : _≡_ {A = ℕ} 0 1 = cc in omega arith
+
+    no-false : (y : System) → isNoSystem (Known y) ≡ true → ⊥
+    no-false y t = let z : _≡_ {A = ℕ} 0 1 = cc in omega arith
+
+    by-number : (s : SystemNumber) → systemOf k ≡ s → Exactly (1 if (3 < k) else table) (firstOf (1 when isNoSystem s ∷ rows s))
+    by-number (Known y) e = row-exactly 1 (isNoSystem (Known y)) table (rows (Known y)) (λ t. absurd (no-false y t)) (λ t above. omega (arith, known-below k y e)) (λ t. rest y e)
+    by-number NoSystem e =
+        row-exactly 1 (isNoSystem NoSystem) table (rows NoSystem)
+        (λ t. none-above k e) (λ t. absurd (no-true t)) (λ t. absurd (no-true t))
+
+-- 2: "frame length is not 48,000·n"
+pub row-length : (k : ℕ) (y : System) → systemOf k ≡ Known y → (size : ℕ) (table : Table) (rows : List Refusal) → (size ≡ 48000 * sequencesOf y → Exactly table (firstOf rows))
+    → Exactly (2 if (size ≢ 48000 * sequences k) else table) (firstOf (2 when not (eqb size (48000 * sequencesOf y)) ∷ rows))
+row-length k y known size table rows rest =
+    row-differs 2 size (48000 * sequencesOf y) (48000 * sequences k) table rows (ap (λ (n : ℕ). 48000 * n) (columns k y known .sequences-is)) rest

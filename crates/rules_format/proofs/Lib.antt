@@ -1,0 +1,13 @@
+pub mod Systems
+pub mod Places
+pub mod Ids
+pub mod Blocks
+pub mod Samples
+pub mod Sound
+pub mod Faults
+pub mod Reading
+pub mod Judging
+pub mod Paper
+pub mod Numbers
+pub mod Known
+pub mod Headlines

@@ -1,0 +1,107 @@
+-- What the definitions of this crate are in document 01's own numbers (`paper`). The laws above go through it, and it says what no call shows, as the way
+-- back from a block to its place.
+use mathlib.Core.Path.{_≡_}
+use mathlib.Core.Bool.{true, false, _||_}
+use mathlib.Core.List.{List, [], _∷_}
+use mathlib.Core.Logic.{_≢_}
+use Prim.Native.Nat.{ℕ, _+_, _*_, _/_, _%_, _≤_, _<_}
+use lib.Dec.{eqb, leb}
+use lib.IntN.{ℤ, pos, negsuc}
+use lib.ListN.{length, getD, take, drop}
+use Rattle.base.specs.Run.{tab}
+use Rattle.paper.specs.declared.System.{System}
+use Rattle.paper.specs.declared.System.the-variants.{I60, I50, P60, P50}
+use Rattle.paper.specs.declared.SystemNumber.the-variants.{Known, NoSystem}
+use Rattle.paper.specs.declared.Sample.the-variants.{Level, Lost}
+use Rattle.paper.specs.declared.SampleNumber.the-variants.{Sampled, NoSample}
+use Rattle.paper.specs.declared.Section.{Section}
+use Rattle.paper.specs.declared.BlockNumber.{BlockNumber}
+use Rattle.paper.specs.declared.Place.{Place}
+use Rattle.paper.specs.declared.Entry.{Entry}
+use Rattle.paper.specs.declared.Found.the-variants.{At}
+use Rattle.paper.specs.declared.Section.the-variants.{Header, Subcode, Vaux, Audio, Video}
+use Rattle.paper.specs.declared.BlockId.{BlockId}
+use Rattle.paper.specs.declared.IdAnswer.the-variants.{Named, Reserved, WrongLength}
+use Rattle.rules_format.specs.Systems.{sequencesOf, halfOf, positionsOf, countsOf, isCount, macroblocksOf, systemOf, rateOf, stypeOf}
+use Rattle.rules_format.specs.Blocks.{blockAt, blockIn, sequenceAt, partAt}
+use Rattle.rules_format.specs.Places.{codeOf, sectionOf, place, entryAt, placeFor, placeOf}
+use Rattle.rules_format.specs.Ids.{channelOf, idBytes, idOf, idAnswer, idValues}
+use Rattle.rules_format.specs.Samples.{numberOf, inRange, sampleIn, sampleOf, wordFor, backOf, bytesOf}
+use Rattle.rules_format.specs.Sound.{byteOf}
+use Rattle.rules_format.specs.Faults.{faultAt, NamesPlace}
+use Rattle.rules_format.specs.Stream.{named}
+use Rattle.rules_format.specs.Reading.{soundBlock, soundNamed, readSample, salvagedSample}
+use Rattle.paper.specs.Paper
+use Rattle.paper.specs.Paper.{figure3, channelBits, channelBy, bytesAt, fault, sampleBy}
+
+-- a row of the table of systems, with its two sample counts
+pub record Numbers (k : ℕ) (y : System) (n positions fewer more count rate stype : ℕ) : Type 0 where
+  pub system : systemOf k ≡ Known y
+  pub numbers : (sequencesOf y ≡ n) × (positionsOf y ≡ positions) × (countsOf y ≡ record { fewer = fewer; more = more }) × (macroblocksOf y ≡ count)
+      × (rateOf y ≡ rate) × (stypeOf y ≡ stype)
+
+pub record InNumbers : Type 0 where
+  -- "Each system brings its own four numbers."
+  pub systems : Numbers 0 I60 10 1620 1600 1602 5400 0 0x14 × Numbers 1 I50 12 1944 1920 1920 6075 1 0x14
+      × Numbers 2 P60 10 1620 1600 1602 5400 0 0x18 × Numbers 3 P50 12 1944 1920 1920 5400 1 0x18
+  pub counts : (y : System) (k : ℕ) → (sequencesOf y ≡ 10 → isCount y k ≡ (eqb k 1600 || eqb k 1602)) × (sequencesOf y ≡ 12 → isCount y k ≡ eqb k 1920)
+  -- 1: "system above 3"
+  pub no-system : (k : ℕ) → 3 < k → systemOf k ≡ NoSystem
+  -- "0 header, 1 subcode, 2 VAUX, 3 audio, 4 video"; "(FSC, FSP) = (0,1), (1,1), (0,0), (1,0) is channel 0, 1, 2, 3"
+  pub sections : (sectionOf 0 ≡ Header) × (sectionOf 1 ≡ Subcode) × (sectionOf 2 ≡ Vaux) × (sectionOf 3 ≡ Audio) × (sectionOf 4 ≡ Video)
+  pub channels : (channelOf 0 1 ≡ 0) × (channelOf 1 1 ≡ 1) × (channelOf 0 0 ≡ 2) × (channelOf 1 0 ≡ 3)
+  -- "Byte 0: section in bits 7-5 .. Byte 1: Dseq in bits 7-4, FSC bit 3, FSP bit 2. Byte 2: DBN. .. Other bits are written 1": of any block, in a frame or not
+  pub ids : (s : Section) (h q d : ℕ) → h < 4 → q < 16 → d < 256
+      → idBytes (idOf h q s d) ≡ (32 * codeOf s + 31) ∷ (16 * q + 4 * channelBits h + 3) ∷ d ∷ []
+  -- "The answer to an ID is a named block with its section, or fault 11": "5-7 reserved"; "an ID 3 bytes", else 4
+  pub read : (id : List ℕ) → length id ≡ 3 → getD id 0 0 / 32 < 5
+      → idAnswer id ≡ Named (record {
+        section = sectionOf (getD id 0 0 / 32);
+        channel = channelBy (getD id 1 0 / 4 % 4);
+        dseq = getD id 1 0 / 16;
+        dbn = record { 0 = getD id 2 0 };
+      })
+  pub reserved : (id : List ℕ) → length id ≡ 3 → 5 ≤ getD id 0 0 / 32 → idAnswer id ≡ Reserved
+  pub wrong-length : (id : List ℕ) → length id ≢ 3 → idAnswer id ≡ WrongLength
+  pub values : (b : BlockId)
+      → (idValues (Named b) ≡ record { number = 0; section = codeOf (b .section); channel = b .channel; dseq = b .dseq; dbn = b .dbn .0 })
+      × (idValues Reserved ≡ record { number = 11; section = 0; channel = 0; dseq = 0; dbn = 0 })
+      × (idValues WrongLength ≡ record { number = 4; section = 0; channel = 0; dseq = 0; dbn = 0 })
+  -- "Places 0 to 5 are H0, SC0, SC1, VA0, VA1, VA2. Then for a = 0 to 8: place 6+16a is A(a), the next 15 are V(15a) to V(15a+14).": figure 3
+  pub places : tab (λ (p : ℕ). (codeOf (entryAt (place p) .section), entryAt (place p) .number .0)) 150 ≡ figure3
+  -- and back, over all entries: a place for what stands there, and none for what stands nowhere
+  pub places-back : (p : ℕ) → p < 150
+      → (placeOf (entryAt (place p)) ≡ At (place p)) × (placeFor (entryAt (place p) .section) (entryAt (place p) .number) ≡ place p)
+  pub places-only : (e : Entry) (p : Place) → placeOf e ≡ At p → (p .0 < 150) × (entryAt p ≡ e)
+  pub no-place : (s : Section) (k : BlockNumber) → placeFor s k .0 < 150 → entryAt (placeFor s k) ≡ record { section = s; number = k }
+  -- "Block start: ((n·h + q)·150 + place)·80."; and a block as a part of its sequence
+  pub blocks : (y : System) (f : List ℕ) (h q p : ℕ) → blockAt y f h q p ≡ bytesAt (sequencesOf y) f h q p 0 80
+  pub blocks-in : (y : System) (f : List ℕ) (h q p : ℕ) → p < 150 → blockIn (sequenceAt y f h q) p ≡ bytesAt (sequencesOf y) f h q p 0 80
+  -- a part of a frame as an answer: "A refusal answers its number, otherwise zeros and an empty part"
+  pub parts : (start size : ℕ) → partAt 0 start size ≡ record { number = 0; start = start; length = size }
+  pub no-part : (number start size : ℕ) → number ≢ 0 → partAt number start size ≡ record { number = number; start = 0; length = 0 }
+  -- "A block names its place when section, channel, Dseq and DBN all do.": block j of the stream
+  pub names : (y : System) (g : List ℕ) (j : ℕ) → named y g j ≡ true
+      → NamesPlace (take 80 (drop (j * 80) g)) (j / 150 / sequencesOf y) (j / 150 % sequencesOf y) (j % 150)
+  pub names-not : (y : System) (g : List ℕ) (j : ℕ) → named y g j ≡ false
+      → NamesPlace (take 80 (drop (j * 80) g)) (j / 150 / sequencesOf y) (j / 150 % sequencesOf y) (j % 150) → ⊥
+  -- 11 to 15, of a block by its three bytes
+  pub faults : (block : List ℕ) (h q p : ℕ) → 3 ≤ length block → faultAt block h q p ≡ fault (getD block 0 0) (getD block 1 0) (getD block 2 0) h q p
+  -- the block and the byte of a sample
+  pub sound : (y : System) (g : List ℕ) (c t : ℕ) → (soundNamed y g c t ≡ named y g (Paper.soundIndex (sequencesOf y) c t))
+      × (soundBlock y g c t ≡ take 80 (drop (Paper.soundIndex (sequencesOf y) c t * 80) g)) × (byteOf (halfOf y) t ≡ 8 + 2 * (t / (9 * (sequencesOf y / 2))))
+  -- "a sample outside -32,768 to 32,768"
+  pub range : (n : ℕ) → (inRange (pos n) ≡ leb n 32768) × (inRange (negsuc n) ≡ leb n 32767)
+  -- "a sample is a level or it is lost", 32,768 in a slice and 8000h in a block; outside the range there is none
+  pub lost : (sampleIn (pos 32768) ≡ Sampled Lost) × (sampleOf 0x8000 ≡ Lost)
+  pub levels : (z : ℤ) → inRange z ≡ true → z ≢ pos 32768 → sampleIn z ≡ Sampled (Level z)
+  pub no-sample : (z : ℤ) → inRange z ≡ false → sampleIn z ≡ NoSample
+  -- "Word 8000h is lost; a level of -32,768 is written 8001h", and comes back as -32,767
+  pub hears : (w : ℕ) → numberOf (sampleOf w) ≡ sampleBy w
+  pub words : (z : ℤ) → inRange z ≡ true → (wordFor z ≡ Paper.wordBy z) × (backOf z ≡ Paper.back z)
+  -- "high byte first"
+  pub bytes : (w : ℕ) → bytesOf w ≡ w / 256 ∷ w % 256 ∷ []
+  -- what a frame says of a position; and as it is salvaged, lost where its block does not name its place
+  pub heard : (y : System) (g : List ℕ) (c t : ℕ) → t < positionsOf y → numberOf (readSample y g c t) ≡ sampleBy (Paper.soundWord (sequencesOf y) g c t)
+  pub salvaged : (y : System) (g : List ℕ) (c t : ℕ) → soundNamed y g c t ≡ true → salvagedSample y g c t ≡ readSample y g c t
+  pub salvaged-lost : (y : System) (g : List ℕ) (c t : ℕ) → soundNamed y g c t ≡ false → salvagedSample y g c t ≡ Lost

@@ -1,0 +1,66 @@
+-- What the definitions of this crate are in document 01's own bytes (`paper`): what is written in the blocks, where a pack is read, what is judged of it.
+-- k is the number of system y.
+use mathlib.Core.Path.{_≡_}
+use mathlib.Core.Bool.{true, false}
+use mathlib.Core.List.{List, [], _∷_, _++_}
+use mathlib.Core.Logic.{_⊎_, _≢_}
+use Prim.Native.Nat.{ℕ, _+_, _*_, _/_, _%_, _<_}
+use lib.Dec.{eqb, ltb}
+use lib.ListN.{length, getD, replicate}
+use Rattle.base.specs.Run.{run}
+use Rattle.paper.specs.declared.System.{System}
+use Rattle.paper.specs.declared.Pack.{Pack}
+use Rattle.paper.specs.declared.SubcodePack.the-variants.{TimeCode, BinaryGroup}
+use Rattle.rules_format.specs.Systems.{halfOf, sequencesOf}
+use Rattle.rules_format.specs.Sound.{audioAt}
+use Rattle.rules_packs.specs.Packs.{packBytes}
+use Rattle.rules_packs.specs.Header.{headerBytes, dsfOk, flagged}
+use Rattle.rules_packs.specs.Subcode.{isFirst, kindOf, ssyb, subcodeBytes, ssybPack}
+use Rattle.rules_packs.specs.TimeCode.{timePack, groupPack, timeOk, groupOk, timeTaken}
+use Rattle.rules_packs.specs.Vaux.{vsAt, vauxPack, vauxBytes, vauxBlock, vauxIn, vsOk}
+use Rattle.rules_packs.specs.Aaux.{asAt, aauxPack, aauxIn, countIn, asOk}
+use Rattle.paper.specs.Paper.{sequences, rate, asPack, countBy, vsPack, vauxPlace, vauxByte, ssybByte, holdsTime, holdsGroup}
+use Rattle.paper.specs.Bytes.{headerForm, ssybForm, vauxForm, aauxForm, sizeForm, WrongVs, WrongAs, WrongClock, WrongTime}
+
+-- the five bytes of a block from byte `at` on
+abbrev pub fiveFrom : List ℕ → ℕ → List ℕ
+fiveFrom block at = getD block at 0 ∷ getD block (at + 1) 0 ∷ getD block (at + 2) 0 ∷ getD block (at + 3) 0 ∷ getD block (at + 4) 0 ∷ []
+
+pub record InBytes (k : ℕ) (y : System) : Type 0 where
+  -- ---- header
+  pub header : headerBytes y ≡ headerForm k
+  -- 21: "some header's DSF disagrees", bit 7 of byte 3; 23: TF1, TF2, TF3, bit 7 of bytes 5, 6, 7
+  pub dsf : (block : List ℕ) → dsfOk y block ≡ eqb (getD block 3 0 / 128) (rate k)
+  pub flags : (i : ℕ) (block : List ℕ) → flagged i block ≡ eqb (getD block (4 + i) 0 / 128) 1
+  -- ---- subcode: "FR: 1 in the first n/2 sequences"; what an SSYB holds
+  pub first : (q : ℕ) → isFirst y q ≡ ltb q (sequences k / 2)
+  pub holds-time : (q j : ℕ) → holdsTime (sequences k) q j ≡ true → kindOf (isFirst y q) j ≡ TimeCode
+  pub holds-group : (q j : ℕ) → holdsGroup (sequences k) q j ≡ true → kindOf (isFirst y q) j ≡ BinaryGroup
+  pub ssybs : (time group : List ℕ) → length time ≡ 4 → length group ≡ 4 → (q j : ℕ) → j < 12
+      → ssyb (isFirst y q) (timePack time) (groupPack group) j ≡ ssybForm k time group q j
+  pub subcode : (time group : Pack) (q b : ℕ)
+      → subcodeBytes (isFirst y q) time group b ≡ run (λ (i : ℕ). ssyb (isFirst y q) time group (6 * b + i)) 6 ++ replicate 29 0xFF
+  pub ssyb-read : (block : List ℕ) (j : ℕ) → packBytes (ssybPack block (j % 6)) ≡ fiveFrom block (ssybByte j)
+  -- 26, 32: time code and binary group
+  pub time-wrong : (p : Pack) → timeOk y p ≡ false → (p .pc0 ≢ 0x13) ⊎ WrongClock k (p .pc1) (p .pc2) (p .pc3) (p .pc4)
+  pub time-right : (p : Pack) → timeOk y p ≡ true → (p .pc0 ≢ 0x13) ⊎ WrongClock k (p .pc1) (p .pc2) (p .pc3) (p .pc4) → ⊥
+  pub group : (p : Pack) → groupOk p ≡ eqb (p .pc0) 0x14
+  pub taken-wrong : (time : List ℕ) → timeTaken y (timePack time) ≡ false → WrongTime k time
+  pub taken-right : (time : List ℕ) → timeTaken y (timePack time) ≡ true → WrongTime k time → ⊥
+  -- ---- VAUX
+  pub vaux : (q j : ℕ) → packBytes (vauxPack y q j) ≡ vauxForm k q j
+  pub vaux-blocks : (q b : ℕ) → vauxBytes y q b ≡ run (λ (i : ℕ). packBytes (vauxPack y q (15 * b + i))) 15 ++ 0xFF ∷ 0xFF ∷ []
+  pub vs-at : (q : ℕ) → vsAt q ≡ vsPack q
+  pub vaux-read : (block : List ℕ) (j : ℕ) → packBytes (vauxIn block j) ≡ fiveFrom block (vauxByte j)
+  pub vaux-block : (j : ℕ) → 3 + vauxBlock j ≡ vauxPlace j
+  -- 22
+  pub vs-wrong : (p : Pack) → vsOk y p ≡ false → WrongVs k (p .pc0) (p .pc3)
+  pub vs-right : (p : Pack) → vsOk y p ≡ true → WrongVs k (p .pc0) (p .pc3) → ⊥
+  -- ---- AAUX: of sequence q of DIF channel h
+  pub aaux : (count h q a : ℕ) → q < sequencesOf y → packBytes (aauxPack y count (audioAt (halfOf y) h q) q a) ≡ aauxForm k (sizeForm count) q a
+  pub as-at : (q : ℕ) → asAt q ≡ asPack q
+  pub aaux-read : (block : List ℕ) → packBytes (aauxIn block) ≡ fiveFrom block 3
+  -- 24, and the count of 25
+  pub as-wrong : (c : ℕ) (p : Pack) → asOk y c p ≡ false → WrongAs k c (p .pc0) (p .pc1) (p .pc2) (p .pc3) (p .pc4)
+  pub as-right : (c : ℕ) (p : Pack) → asOk y c p ≡ true → WrongAs k c (p .pc0) (p .pc1) (p .pc2) (p .pc3) (p .pc4) → ⊥
+  pub count : (p : Pack) → countIn p ≡ countBy (p .pc1 % 64)

@@ -1,0 +1,7 @@
+pub mod Packs
+pub mod Header
+pub mod Subcode
+pub mod TimeCode
+pub mod Vaux
+pub mod Aaux
+pub mod InBytes

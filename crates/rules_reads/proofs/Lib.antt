@@ -1,0 +1,12 @@
+pub mod Check
+pub mod Reading
+pub mod Audio
+pub mod Macroblock
+pub mod Time
+pub mod Grounds
+pub mod GroundsAudio
+pub mod GroundsTime
+pub mod Refusals
+pub mod Answering
+pub mod ReadingOut
+pub mod Headlines

@@ -1,0 +1,11 @@
+pub mod FaultLists
+pub mod Halves
+pub mod Records
+pub mod Calls
+pub mod Salvage
+pub mod Refusals
+pub mod Answering
+pub mod Listing
+pub mod ReadingOut
+pub mod Salvaging
+pub mod Headlines

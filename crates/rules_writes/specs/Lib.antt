@@ -1,0 +1,3 @@
+-- What a written frame holds, and the call with its contract.
+pub mod Written
+pub mod Write
