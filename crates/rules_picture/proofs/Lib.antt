@@ -1,3 +1,4 @@
+pub mod Ruled
 pub mod Picture
 pub mod Slots
 pub mod Headlines

@@ -1,16 +1,15 @@
--- Laws of the picture slots: every macroblock lies in exactly one slot, by tests that antt computes. Assumes nothing.
+-- Laws of the picture slots: every macroblock lies in exactly one slot. Assumes nothing.
 use mathlib.Core.Path.{_≡_, refl, sym, ap, _∙_}
 use mathlib.Core.Bool.{Bool, true, false, not, _&&_}
 use Prim.Native.Nat.{ℕ, _<_, _≤_}
 use native.Mathlib.Omega.{arith}
-use lib.Dec.{T, eqb, ltb, eqb→eq, ltb→lt}
+use lib.Dec.{T, eqb, ltb}
 use borrow.Author.Tests.{ltb-true, ltb-false, eqb-true, lt-ltb, le-ltb, eq-eqb, ne-eqb, not-true, not-false}
 use Rattle.base.specs.Pick.{pick}
 use Rattle.base.specs.Calls.{ExactlyOne}
 use Rattle.base.specs.Below.{below}
 use Rattle.base.proofs.Cases.{by-lt}
 use Rattle.base.proofs.Picks.{pick-true, pick-false, pick-either, both-held}
-use Rattle.base.proofs.Below.{below-at, both-left, both-right}
 use Rattle.paper.specs.declared.System.{System}
 use Rattle.paper.specs.declared.System.the-variants.{I60, I50, P60, P50}
 use Rattle.paper.specs.declared.Slot.{Slot}
@@ -21,6 +20,7 @@ use Rattle.paper.specs.declared.Carrier.the-variants.{In, NoSlot}
 use Rattle.rules_format.specs.Systems.{sequencesOf, macroblocksOf}
 use Rattle.rules_picture.specs.Picture.{slot, tenCarries, elevenCarries, within, carriesOf, carriedIn, tenFound, elevenFound, carrierOf, carriedBy}
 use Rattle.rules_picture.specs.Rows.{meets, rowsAgree, table22, table23, table24, printedRows}
+use Rattle.rules_picture.proofs.Ruled.{carried-picked, eleven-back, ten-back, ten-forth, within-there, eleven-forth}
 
 -- ---- carriedIn: the printed rows
 
@@ -28,70 +28,6 @@ use Rattle.rules_picture.specs.Rows.{meets, rowsAgree, table22, table23,
 pub rows-agree : T (rowsAgree printedRows)
 unfolding printedRows table22 table23 table24 rowsAgree meets within tenCarries elevenCarries pick
 rows-agree = tt
-
--- ---- carriedIn, carrierOf: the tests, of a rule f of what a slot carries and a rule g of where a macroblock lies
-
-abbrev is : Carried → ℕ → Bool
-is (Macroblock b) k = eqb b k
-is Nothing k = false
-
-is-says : (r : Carried) (k : ℕ) → T (is r k) → r ≡ Macroblock k
-is-says (Macroblock b) k t = rw (eqb→eq b k t) refl
-is-says Nothing k t = absurd t
-
-abbrev is-in : Carrier → Slot → Bool
-is-in (In r) s = eqb (r .channel) (s .channel) && (eqb (r .sequence) (s .sequence) && eqb (r .video .0) (s .video .0))
-is-in NoSlot s = false
-
--- three numbers that pass the test are equal
-three : (a b c x y z : ℕ) → T (eqb a x && (eqb b y && eqb c z)) → (a ≡ x) × (b ≡ y) × (c ≡ z)
-three a b c x y z t =
-    let u = both-right (eqb a x) (eqb b y && eqb c z) t in
-    (eqb→eq a x (both-left (eqb a x) (eqb b y && eqb c z) t), eqb→eq b y (both-left (eqb b y) (eqb c z) u), eqb→eq c z (both-right (eqb b y) (eqb c z) u))
-
-is-in-says : (r : Carrier) (s : Slot) → T (is-in r s) → r ≡ In s
-is-in-says (In r) s t = let e = three (r .channel) (r .sequence) (r .video .0) (s .channel) (s .sequence) (s .video .0) t in λ i. In (slot (e .0 i) (e .1 i) (e .2 i))
-is-in-says NoSlot s t = absurd t
-
--- where a slot carries a macroblock, that is below m and lies in this slot
-abbrev back : (ℕ → Carrier) → ℕ → Carried → Slot → Bool
-back g m (Macroblock b) s = ltb b m && is-in (g b) s
-back g m Nothing s = true
-
-module _ (f : ℕ → ℕ → ℕ → Carried) (g : ℕ → Carrier) (m n : ℕ) where
-  abbrev forth : ℕ → Bool
-  forth b = is (carriedBy (within f) (g b)) b
-
-  forth-says : T (below forth m) → (b : ℕ) → b < m → carriedBy (within f) (g b) ≡ Macroblock b
-  forth-says t b h = is-says (carriedBy (within f) (g b)) b (below-at forth m t b h)
-
-  abbrev in-sequence : ℕ → ℕ → Bool
-  in-sequence h q = below (λ (v : ℕ). back g m (f h q v) (slot h q v)) 135
-
-  abbrev in-channel : ℕ → Bool
-  in-channel h = below (in-sequence h) n
-
-  back-says : T (below in-channel 4) → (h q v b : ℕ) → h < 4 → q < n → v < 135 → f h q v ≡ Macroblock b → (b < m) × (g b ≡ In (slot h q v))
-  back-says t h q v b lh lq lv e =
-      let a : T (back g m (f h q v) (slot h q v)) = below-at (λ (w : ℕ). back g m (f h q w) (slot h q w)) 135 (below-at (in-sequence h) n (below-at in-channel 4 t h lh) q lq) v lv in
-      let u : T (ltb b m && is-in (g b) (slot h q v)) = rw e at a in
-      (ltb→lt b m (both-left (ltb b m) (is-in (g b) (slot h q v)) u), is-in-says (g b) (slot h q v) (both-right (ltb b m) (is-in (g b) (slot h q v)) u))
-
-ten-forth : (b : ℕ) → b < 5400 → carriedBy (within tenCarries) (tenFound b) ≡ Macroblock b
-unfolding within tenFound tenCarries pick
-ten-forth = forth-says tenCarries tenFound 5400 10 tt
-
-eleven-forth : (b : ℕ) → b < 6075 → carriedBy (within elevenCarries) (elevenFound b) ≡ Macroblock b
-unfolding within elevenFound elevenCarries pick
-eleven-forth = forth-says elevenCarries elevenFound 6075 12 tt
-
-ten-back : (h q v b : ℕ) → h < 4 → q < 10 → v < 135 → tenCarries h q v ≡ Macroblock b → (b < 5400) × (tenFound b ≡ In (slot h q v))
-unfolding tenFound tenCarries pick
-ten-back = back-says tenCarries tenFound 5400 10 tt
-
-eleven-back : (h q v b : ℕ) → h < 4 → q < 12 → v < 135 → elevenCarries h q v ≡ Macroblock b → (b < 6075) × (elevenFound b ≡ In (slot h q v))
-unfolding elevenFound elevenCarries pick
-eleven-back = back-says elevenCarries elevenFound 6075 12 tt
 
 -- ---- what they say, of every system
 
@@ -107,11 +43,6 @@ pub record Inside (y : System) (s : Slot) : Type 0 where
   pub channel : s .channel < 4
   pub sequence : s .sequence < sequencesOf y
   pub video : s .video .0 < 135
-
-carried-picked : (t : Bool) (x : Carried) (b : ℕ) → pick t x Nothing ≡ Macroblock b → (t ≡ true) × (x ≡ Macroblock b)
-unfolding pick
-carried-picked true x b e = (refl, e)
-carried-picked false x b e = let q : _≡_ {A = ℕ} 0 1 = cc in absurd (omega arith)
 
 within-carried : (f : ℕ → ℕ → ℕ → Carried) (s : Slot) (b : ℕ) → within f s ≡ Macroblock b
     → (s .channel < 4) × (s .video .0 < 135) × (f (s .channel) (s .sequence) (s .video .0) ≡ Macroblock b)
@@ -226,10 +157,6 @@ pub record Carries (y : System) (s : Slot) : Type 0 where
   pub number : ℕ
   pub below : number < macroblocksOf y
   pub carried : carriedIn y s ≡ Macroblock number
-
-pub within-there : (f : ℕ → ℕ → ℕ → Carried) (s : Slot) → s .channel < 4 → s .video .0 < 135 → within f s ≡ f (s .channel) (s .sequence) (s .video .0)
-unfolding within
-within-there f s h v = pick-true _ _ (lt-ltb _ _ h) ∙ pick-true _ _ (lt-ltb _ _ v)
 
 carries : (y : System) (s : Slot) (b : ℕ) → carriedIn y s ≡ Macroblock b → Carries y s
 carries y s b e = record { number = b; below = carried-lies y s b e .0; carried = e }

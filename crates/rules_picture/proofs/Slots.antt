@@ -18,7 +18,8 @@ use Rattle.rules_picture.specs.Picture.{slot, tenCarries, elevenCarries,
 use Rattle.paper.specs.Paper
 use Rattle.paper.specs.Paper.{tenRows, elevenRows, carried, macroblocks}
 use Rattle.rules_picture.specs.Slots.{SlotOf, SlotsInNumbers}
-use Rattle.rules_picture.proofs.Picture.{within-there, carrier-one, carried-inside, carried-lies, carrier-past}
+use Rattle.rules_picture.proofs.Ruled.{within-there}
+use Rattle.rules_picture.proofs.Picture.{carrier-one, carried-inside, carried-lies, carrier-past}
 use Rattle.rules_format.proofs.Paper.{columns, number-known, known-system}
 
 -- ---- carriedIn: what the slot V(5g+m) carries
