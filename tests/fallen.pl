@@ -12,16 +12,20 @@ for my $edit (sort glob 'crates/*/must-fail/*.edit') {
     my $log = "target/must-fail/$crate/$name/.log";
     my $ground = -e "crates/$crate/proofs/Headlines.antt";
     open my $in, '<', $log or do { print STDERR "tests/fallen.pl: no $log\n"; $bad = 1; next };
-    my (@headlines, @laws, @contracts, %seen);
+    my (@headlines, @laws, @contracts, %seen, %own);
     while (<$in>) {
         if (m{/proofs/(\S+)\.antt:\d+:\d+: error: `([^`]+)`: (.*)}) {
             my ($file, $law, $why) = ($1, $2, $3);
             next if $seen{"$file $law"}++;
             if ($file eq 'Headlines') { push @headlines, $law }
-            elsif ($why !~ /was not admitted/) { push @laws, $law }
+            elsif ($why !~ /was not admitted/) {
+                push @laws, $law;
+                $own{$crate . '::' . $1 =~ s{/}{::}gr} = 1 if $file =~ m{^(.+)/Proof$};
+            }
         }
-        # a contract that the function's own body does not meet, by its proof file or, where it has none, by the prover's own search
-        push @contracts, $1 if /^fn (\S+): (?:not proved$|no proof)/;
+        # a contract that the function's own body does not meet, by its proof file or, where it has none, by the prover's own search;
+        # of a function that calls another which is not proved, where its own proof fails too
+        push @contracts, $1 if /^fn (\S+): (?:not proved$|no proof)/ or /^fn (\S+): not proved; it calls / && $own{$1};
     }
     close $in;
     my $broken = $ground ? \@laws : \@contracts;

@@ -1,8 +1,8 @@
 #!/usr/bin/perl
-# reads.pl: prints the lines that the test program reads must print. It runs from the repository's top.
+# reads.pl: prints the lines that the test program try_reads must print. It runs from the repository's top.
 # Written from document 01 alone, with demand 3 for what salvage calls lost, and not from the library: a second reader and salvage.
 # The places of samples and of macroblocks are document 01's closed formulas; the frames that are read come from tests/written.pl,
-# which has the Recommendation's loops. Of the test program it reads the tables of patches, as data: which byte is changed to what.
+# which has the Recommendation's loops. Of the test program it reads the script, as data: what is changed and what is asked.
 use strict;
 use warnings;
 
@@ -431,9 +431,7 @@ sub try_reads {
     out($name, $i, @numbers, $count, $lent - $count, scalar @part, map { sprintf '%02X', $_ } @time);
 }
 
-# With audio channel 6, macroblock 2,700 and right lengths
 sub size_of { my ($k) = @_; 48_000 * $systems[$k]{n} }
-sub try_plain { my ($name, $i, $k) = @_; try_reads($name, $i, $k, size_of($k), 6, 2700, $systems[$k]{positions}) }
 
 sub try_survey {
     my ($k, $list_size) = @_;
@@ -451,17 +449,16 @@ sub try_salvage {
     return @got;
 }
 
-sub try_salvage_plain { my ($k, $list_size) = @_; try_salvage($k, size_of($k), 8 * $systems[$k]{positions}, $list_size) }
-
 # ---- frames
 
 # tests/written.pl's cases, by system and count
 my %cases = ('0,1600' => 'A', '0,1602' => 'B', '1,1920' => 'C', '2,1602' => 'D', '3,1920' => 'E');
-my %made;
+my (%made, @sound);
 
 # The writer answers 0
 sub write_frame {
     my ($k, $count) = @_;
+    @sound = sound($count);
     my $case  = $cases{"$k,$count"};
     my $bytes = $made{$case} //= `perl tests/written.pl $case`;
     die "reads.pl: written.pl has not made case $case\n" unless length $bytes == size_of($k);
@@ -485,50 +482,23 @@ sub picture {
 
 # ---- what is tried
 
-sub good_audio {
-    my ($view, $c, @sound) = @_;
+sub try_audio {
+    my ($k, $c) = @_;
+    my $view = view($k, size_of($k));
     my ($number, $count) = read_audio($view, $c, $view->{positions});
-    my @got = samples($view, $c, $count);
-    die "reads.pl: audio channel $c is not the one put in\n" if "@got" ne "@sound";
+    my @got   = samples($view, $c, $count);
+    my @given = @sound[ ($c - 1) * $count .. $c * $count - 1 ];
+    die "reads.pl: audio channel $c is not the one put in\n" if "@got" ne "@given";
     out('audio', $c, $number, $count, sums(raised(@got)), $lent - $count, raised(@got[0, 1, -1]));
 }
 
-sub good_macroblock {
-    my ($view, $b) = @_;
+sub try_macroblock {
+    my ($k, $b) = @_;
+    my $view = view($k, size_of($k));
     my @got  = macroblock($view, $b);
     my @part = $b < $view->{macroblocks} ? picture($b) : ();
     die "reads.pl: macroblock $b is not the one put in\n" if "@got" ne "@part";
     out('macroblock', $b, macroblock_number($view, $b), scalar @got, sums(@got));
-}
-
-# A good frame: a try, all audio channels, four macroblocks of which the last is none, salvage
-sub good {
-    my ($k, $count) = @_;
-    write_frame($k, $count);
-    try_plain('good', 0, $k);
-    my $view  = view($k, size_of($k));
-    my @sound = sound($count);
-    good_audio($view, $_, @sound[ ($_ - 1) * $count .. $_ * $count - 1 ]) for 1 .. 8;
-    my $behind = $view->{macroblocks};
-    good_macroblock($view, $_) for 0, 2429, $behind - 1, $behind;
-    try_salvage_plain($k, 8);
-}
-
-# The test program's tables by name: DIF channel, sequence, place, byte, new value
-my %patches;
-
-sub read_patches {
-    my $file = 'crates/try_reads/src/tables.rt';
-    open my $in, '<', $file or die "reads.pl: $file: $!\n";
-    my $name;
-    while (my $line = <$in>) {
-        $name = $1 if $line =~ /^fn (\w+)\(/;
-        next unless $line =~ /=> at\((\d+), (\d+), (\d+), (\d+), 0x([0-9A-F]{2})\)/;
-        push @{ $patches{$name} }, [$1, $2, $3, $4, hex $5];
-    }
-    for my $wanted (qw(fifty ordered strict free firsts seconds)) {
-        die "reads.pl: no table $wanted in $file\n" unless $patches{$wanted};
-    }
 }
 
 # Puts bytes at a byte of a block, and answers what was there
@@ -539,47 +509,16 @@ sub put {
     return $old;
 }
 
-# Puts a patch, and answers the one that takes it back
-sub patch {
-    my ($k, $patch) = @_;
-    my ($h, $q, $place, $byte, $value) = @$patch;
-    return [$h, $q, $place, $byte, ord put($k, $h, $q, $place, $byte, chr $value)];
-}
-
-# One patch, tried and taken back
-sub single {
-    my ($name, $i, $k, $patch) = @_;
-    my $back = patch($k, $patch);
-    try_plain($name, $i, $k);
-    patch($k, $back);
-}
-
-sub singles {
-    my ($name, $k, $table) = @_;
-    single($name, $_, $k, $table->[$_]) for 0 .. $#$table;
-}
-
-# Two patches at once
-sub doubles {
-    my ($name, $k, $firsts, $seconds) = @_;
-    for my $i (0 .. $#$firsts) {
-        my $back = patch($k, $firsts->[$i]);
-        single($name, $i, $k, $seconds->[$i]);
-        patch($k, $back);
-    }
-}
-
-# Patches that are kept, one after another
-sub together {
-    my ($name, $k, $table) = @_;
-    for my $i (0 .. $#$table) {
-        patch($k, $table->[$i]);
-        try_plain($name, $i, $k);
-    }
+# A byte, tried with audio channel 6, macroblock 2,700 and right lengths, and taken back
+sub try_patch {
+    my ($name, $i, $k, $h, $q, $place, $byte, $value) = @_;
+    my $old = put($k, $h, $q, $place, $byte, chr $value);
+    try_reads($name, $i, $k, size_of($k), 6, 2700, $systems[$k]{positions});
+    put($k, $h, $q, $place, $byte, $old);
 }
 
 # An audio channel of the salvaged: lost samples, zeros from the count on, the checksum, the first
-sub channel {
+sub try_channel {
     my ($c, @numbers) = @_;
     my @part  = @numbers[ 1620 * ($c - 1) .. 1620 * $c - 1 ];
     my $gone  = grep { $_ == $lost } @part;
@@ -596,93 +535,31 @@ sub rubbish {
     }
 }
 
-# ---- bad input, of a frame of system 0
+# ---- the script: on a line a letter, a name and numbers; what stands behind a # is not read
 
-# System, bytes of the frame, audio channel, macroblock, numbers for samples
-my @bad = (
-    [0,          479_999, 6,          2700,       1620],
-    [0,          480_001, 6,          2700,       1620],
-    [0,          0,       6,          2700,       1620],
-    [1,          480_000, 6,          2700,       1944],
-    [2,          480_000, 6,          2700,       1620],
-    [4,          480_000, 6,          2700,       1620],
-    [4294967295, 480_000, 6,          2700,       1620],
-    [0,          480_000, 0,          2700,       1620],
-    [0,          480_000, 9,          2700,       1620],
-    [0,          480_000, 4294967295, 2700,       1620],
-    [0,          480_000, 6,          5400,       1620],
-    [0,          480_000, 6,          4294967295, 1620],
-    [0,          480_000, 6,          2700,       1619],
-    [0,          480_000, 6,          2700,       1621],
-    [0,          480_000, 6,          2700,       0],
-    [0,          480_000, 6,          2700,       1600],
-);
-
-# Beside every number from 11 on: 4, then 3 and 4, then 2 to 4, then 1 to 4
-my @order = ([0, 480_000, 6, 2700, 1619], [0, 480_000, 9, 5400, 1619], [0, 479_999, 9, 5400, 1619], [4, 479_999, 9, 5400, 1619]);
-
-# Of salvage: system, bytes of the frame, numbers for samples
-my @bad_salvages = (
-    [4, 480_000, 12_960],
-    [0, 479_999, 12_960],
-    [0, 480_001, 12_960],
-    [1, 480_000, 15_552],
-    [0, 480_000, 12_959],
-    [0, 480_000, 12_961],
-    [0, 479_999, 12_961],
-    [4, 479_999, 12_961],
-);
-
-# ---- the lines
-
-read_patches();
-
-# all systems and counts; patches at 50 Hz; a frame asked as one of every system
-good(3, 1920);
-good(1, 1920);
-singles('fifty', 1, $patches{fifty});
-try_plain('other', $_, $_) for 0 .. 3;
-good(2, 1602);
-good(0, 1602);
-good(0, 1600);
-
-# bad input, then each refusal alone, what is not judged, pairs, and every refusal with the higher ones present
-write_frame(0, 1600);
-try_reads('bad', $_, @{ $bad[$_] }) for 0 .. $#bad;
-try_salvage(@$_, 8) for @bad_salvages;
-singles('alone',  0, $patches{ordered});
-singles('strict', 0, $patches{strict});
-singles('free',   0, $patches{free});
-doubles('pair', 0, $patches{firsts}, $patches{seconds});
-together('together', 0, $patches{ordered});
-try_reads('order', $_, @{ $order[$_] }) for 0 .. $#order;
-
-# a block that is wrong in all parts of its ID
-write_frame(0, 1600);
-put(0, 3, 3, 23, 0, "\x00" x 80);
-try_plain('block', 12, 0);
-put(0, 3, 3, 23, 0, "\xFF" x 80);
-try_plain('block', 11, 0);
-
-# three damaged blocks: one zeroed, one with the bytes of another, one with a wrong DBN
-write_frame(0, 1600);
-put(0, 0, 7, 70,  0, "\x00" x 80);
-put(0, 1, 3, 38,  0, substr $frame, start(10, 1, 2, 22), 80);
-put(0, 2, 4, 100, 2, "\x59");
+# The numbers that were salvaged last
 my @last;
-for my $list_size (0, 10, 32) {
-    try_survey(0, $list_size);
-    @last = try_salvage_plain(0, $list_size);
+
+sub run_line {
+    my ($letter, $name, @f) = @_;
+    if    ($letter eq 'w') { write_frame(@f[0, 1]) }
+    elsif ($letter eq 't') { try_reads($name, @f) }
+    elsif ($letter eq 'p') { try_patch($name, @f) }
+    elsif ($letter eq 'a') { try_audio(@f) }
+    elsif ($letter eq 'm') { try_macroblock(@f) }
+    elsif ($letter eq 's') { @last = try_salvage(@f) }
+    elsif ($letter eq 'v') { try_survey(@f) }
+    elsif ($letter eq 'c') { try_channel(@f, @last) }
+    elsif ($letter eq 'k') { put(0, @f[0 .. 3], chr($f[5]) x $f[4]) }
+    elsif ($letter eq 'o') { put(0, @f[3 .. 5], 0, substr $frame, start(10, @f[0 .. 2]), 80) }
+    elsif ($letter eq 'r') { rubbish() }
+    else                   { die "reads.pl: no such line: $letter\n" }
 }
-channel($_, @last) for 1 .. 8;
 
-# another first sample of audio channel 7
-put(0, 3, 0, 6, 8, "\x12\x34");
-channel(7, try_salvage_plain(0, 0));
-try_plain('damaged', 12, 0);
-
-# rubbish, as a frame of every system
-rubbish();
-try_plain('rubbish', $_, $_) for 0 .. 3;
-try_salvage_plain(2, 8);
-try_salvage_plain(3, 32);
+my $script = 'crates/try_reads/stdin';
+open my $in, '<', $script or die "reads.pl: $script: $!\n";
+while (my $line = <$in>) {
+    $line =~ s/#.*//s;
+    my @words = split ' ', $line;
+    run_line(map { /^0x/ ? hex : $_ } @words) if @words;
+}

@@ -57,7 +57,7 @@ fn audio_at(s: u32, h: u32, q: u32) -> u32
     2 * h + q / s + 1
 }
 
-// The samples of an audio channel; sound is lent channel after channel.
+// The samples of an audio channel; sound is lent audio channel after audio channel.
 fn samples_of(sound: &[i32], c: u32, count: u32) -> &[i32]
     requires { ⌜ SamplesAsked (now sound) c count ⌝ }
     ensures { λ r. ⌜ now r ≡ samplesOf (now (sound .entry)) c count ⌝ }

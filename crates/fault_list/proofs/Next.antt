@@ -18,7 +18,8 @@ use Rattle.rules_surveys.specs.Survey.{outsideSequences}
 use Rattle.rules_format.proofs.Systems.{sequences-le}
 use Rattle.rules_surveys.proofs.Records.{noted-none}
 use Rattle.rules_surveys.proofs.Calls.{inside-means}
-use Rattle.fault_list.specs.Asked.{PartAsked, Clean, nextFaults}
+use Rattle.judged_bits.specs.Clean.{PartAsked, Clean}
+use Rattle.fault_list.specs.Asked.{nextFaults}
 
 module _ (y : System) (h q : ℕ) (part : List ℕ) (t : ℕ) (o : Bool) (eo : o ≡ outsideSequences (Known y) h q) where
   pub none-outside : o ≡ true → nextFaults y h q part t ≡ []
@@ -68,11 +69,8 @@ pub next-inside : (y : System) (h q : ℕ) (part : List ℕ) (t : ℕ) → h < 4
 unfolding nextFaults
 next-inside y h q part t hh hq e l = rw (lt-leb _ _ hh, lt-leb _ _ hq, eq-eqb _ _ e, lt-ltb t 8000 l) (pick-true _ _ refl)
 
--- what the survey of the sequence asks
-pub next-asked : (y : System) (h q : ℕ) (part : List ℕ) (t : ℕ) (o : Bool) → o ≡ outsideSequences (Known y) h q → o ≡ false → length part ≡ 12000 → t < 8000 → PartAsked part h q t
-next-asked y h q part t o eo f e l =
+-- what is asked of the sequence
+pub next-asked : (y : System) (h q : ℕ) (part : List ℕ) (o : Bool) → o ≡ outsideSequences (Known y) h q → o ≡ false → length part ≡ 12000 → PartAsked part h q
+next-asked y h q part o eo f e =
     let i = inside-means y h q (sym eo ∙ f) in
-    record { whole = e; sequence = record { channel = i .0; sequence = omega (arith, i .1, sequences-le y) }; few = l }
-
-pub clean-asked : (y : System) (h q : ℕ) (part : List ℕ) (o : Bool) → o ≡ outsideSequences (Known y) h q → o ≡ false → length part ≡ 12000 → PartAsked part h q 0
-clean-asked y h q part o eo f e = next-asked y h q part 0 o eo f e (omega arith)
+    record { whole = e; sequence = record { channel = i .0; sequence = omega (arith, i .1, sequences-le y) } }

@@ -1,7 +1,8 @@
 // Whether a sequence has no fault.
 ghost use mathlib.Core.Path.{_≡_};
 ghost use Rattle.rules_surveys.specs.FaultLists.{sequenceFaults};
-ghost use Rattle.fault_list.specs.Asked.{Clean, isNamed, PartAsked};
+ghost use Rattle.judged_bits.specs.Clean.{Clean, PartAsked};
+ghost use Rattle.fault_list.specs.Asked.{isNamed};
 use layout::BLOCK;
 use layout::PLACES;
 use paper::IdAnswer;
@@ -20,7 +21,7 @@ fn is_named(id: IdAnswer) -> bool
 // Whether every block is named and the judged bits of its ID are its place's. No early return, so that a block costs few
 // instructions.
 pub(crate) fn clean_part(part: &[u8], h: u32, q: u32) -> bool
-    requires { ⌜ PartAsked (now part) h q 0 ⌝ }
+    requires { ⌜ PartAsked (now part) h q ⌝ }
     ensures { λ r. ⌜ Clean r (sequenceFaults (now (part .entry)) h q) ⌝ }
 {
     let table = layout::printed_places();

@@ -1,7 +1,9 @@
 // The survey of one sequence, block by block.
+ghost use Prim.Native.Nat.{_<_};
 ghost use Rattle.rules_surveys.specs.FaultLists.{blockFaults, sequenceFaults};
 ghost use Rattle.rules_surveys.specs.Noting.{Noted};
-ghost use Rattle.fault_list.specs.Asked.{BlockAsked, PartAsked, nextFaults};
+ghost use Rattle.judged_bits.specs.Clean.{BlockAsked, PartAsked};
+ghost use Rattle.fault_list.specs.Asked.{nextFaults};
 use crate::clean;
 use crate::list;
 use layout::BLOCK;
@@ -22,7 +24,8 @@ fn survey_block(
     list: &mut [u32],
     t: u32,
 ) -> u32
-    requires { ⌜ BlockAsked (now block) h q (p .0) printed key t ⌝ }
+    requires { ⌜ BlockAsked (now block) h q (p .0) printed key ⌝ }
+    requires { ⌜ t < 10000 ⌝ }
     ensures { λ r. ⌜ Noted (now (list .entry)) t (blockFaults (now (block .entry)) h q (p .0)) (now (list .exit)) r ⌝ }
 {
     let id = layout::read_block(block);
@@ -47,7 +50,8 @@ fn survey_block(
 
 // The survey of one sequence's 12,000 bytes, where t faults came before.
 pub(crate) fn survey_part(part: &[u8], h: u32, q: u32, list: &mut [u32], t: u32) -> u32
-    requires { ⌜ PartAsked (now part) h q t ⌝ }
+    requires { ⌜ PartAsked (now part) h q ⌝ }
+    requires { ⌜ t < 8000 ⌝ }
     ensures { λ r. ⌜ Noted (now (list .entry)) t (sequenceFaults (now (part .entry)) h q) (now (list .exit)) r ⌝ }
 {
     let table = layout::printed_places();

@@ -16,7 +16,7 @@ use Rattle.rules_format.specs.Blocks.{blockIn}
 use Rattle.rules_format.specs.Faults.{faultAt}
 use Rattle.rules_surveys.specs.FaultLists.{blockFaults, placeFaults, sequenceFaults}
 use Rattle.rules_reads.specs.Check.{firstFault}
-use Rattle.fault_list.specs.Asked.{Clean}
+use Rattle.judged_bits.specs.Clean.{Clean}
 use Rattle.first_fault.specs.Asked.{FirstFaultIs}
 
 -- ---- the first fault of a run: before turn i there is none, and r is the first of turn i

@@ -15,7 +15,7 @@ use Rattle.rules_format.specs.Systems.{sequencesOf}
 use Rattle.rules_format.specs.Blocks.{sequenceAt}
 use Rattle.rules_surveys.specs.FaultLists.{sequenceFaults, partFaults, channelFaults, frameFaults}
 use Rattle.rules_format.proofs.Systems.{sequences-le, sequences-some}
-use Rattle.fault_list.specs.Asked.{PartAsked}
+use Rattle.judged_bits.specs.Clean.{PartAsked}
 use Rattle.first_fault.specs.Asked.{FirstFaultIs, streamFaults, firstOrLength}
 use Rattle.first_fault.proofs.Ends.{first-none, ends-not, ends-here}
 
@@ -33,14 +33,13 @@ frame-stream y frame =
     ∙ run-runs (partFaults y frame) n 4 (sequences-some y))
 
 module _ (y : System) (frame : List ℕ) (n j : ℕ) (whole : length frame ≡ 48000 * sequencesOf y) (en : n ≡ sequencesOf y) (l : j < n * 4) where
-  pub stream-asked : PartAsked (take (j * 12000 + 12000 - j * 12000) (drop (j * 12000) frame)) (j / n) (j % n) 0
+  pub stream-asked : PartAsked (take (j * 12000 + 12000 - j * 12000) (drop (j * 12000) frame)) (j / n) (j % n)
   stream-asked =
       let some : 0 < n = omega (arith, en, sequences-some y) in
       let l′ : j < 4 * n = omega (arith, l) in
       record {
         whole = ap length (range-part (j * 12000) 12000 frame) ∙ length-part (j * 12000) 12000 frame (omega (arith, whole, en, l));
         sequence = record { channel = div-lt-iff-lt-mul some .1 l′; sequence = omega (arith, mod-lt j some, en, sequences-le y) };
-        few = omega arith;
       }
 
 module _ (frame : List ℕ) (n j : ℕ) (before : run (streamFaults frame n) j ≡ []) (r : ℕ) (m : FirstFaultIs r (sequenceFaults (take (j * 12000 + 12000 - j * 12000) (drop (j * 12000) frame)) (j / n) (j % n))) where

@@ -1,1 +1,2 @@
 pub mod Masked
+pub mod Clear

@@ -7,14 +7,14 @@ use paper::Pack;
 use paper::SubcodePack;
 use paper::System;
 
-// The time code of SSYB 3 of channel 0, sequence 0.
+// The time code of SSYB 3 of DIF channel 0, sequence 0.
 pub fn time_first(y: System, frame: &[u8]) -> Pack
     ensures { λ r. ⌜ r ≡ timeFirst y (now (frame .entry)) ⌝ }
 {
     read::ssyb_in(frame, read::start(y, 0, 0), 3)
 }
 
-// The binary group of SSYB 4 of channel 0, sequence 0.
+// The binary group of SSYB 4 of DIF channel 0, sequence 0.
 pub fn group_first(y: System, frame: &[u8]) -> Pack
     ensures { λ r. ⌜ r ≡ groupFirst y (now (frame .entry)) ⌝ }
 {

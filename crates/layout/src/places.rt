@@ -156,7 +156,8 @@ pub fn place_in(section: Section, number: BlockNumber) -> Place
     }
 }
 
-// The same of an entry, nowhere where there is none.
+// The same of an entry, nowhere where there is none. No call asks it yet: it is there for finding where a block belongs whose
+// place is not known.
 pub fn place_of(e: Entry) -> Found
     ensures { λ r. ⌜ r ≡ placeOf e ⌝ }
 {

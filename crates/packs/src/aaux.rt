@@ -22,7 +22,7 @@ fn size_of(count: u32) -> u8
     }
 }
 
-// Mode: 0 for channels 1, 3, 5, 7 and 1 for 2, 4, 6, 8.
+// Mode: 0 for audio channels 1, 3, 5, 7 and 1 for 2, 4, 6, 8.
 fn mode_of(c: u32) -> u32
     ensures { λ r. ⌜ r ≡ modeOf c ⌝ }
 {

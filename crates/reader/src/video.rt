@@ -20,25 +20,25 @@ fn slot_start(y: System, h: u32, q: u32, v: BlockNumber) -> usize
     (((n * h + q) * PLACES + p.0) as usize) * BLOCK + 3
 }
 
-// The number of a macroblock read. Refusals: 1, 2, 3, the frame check's, 23.
-pub fn macroblock_number(system: u32, frame: &[u8], number: u32) -> u32
-    ensures { λ r. ⌜ MacroblockNumbered system (now (frame .entry)) number r ⌝ }
+// The number of a read of macroblock b. Refusals: 1, 2, 3, the frame check's, 23.
+pub fn macroblock_number(system: u32, frame: &[u8], b: u32) -> u32
+    ensures { λ r. ⌜ MacroblockNumbered system (now (frame .entry)) b r ⌝ }
 {
-    refuse_macroblock::macroblock_number(system, frame, number)
+    refuse_macroblock::macroblock_number(system, frame, b)
 }
 
-// Where a macroblock lies: its first byte and its length, 77; zeros where its number is a refusal.
-pub fn macroblock_at(system: u32, frame: &[u8], number: u32) -> Part
-    ensures { λ r. ⌜ MacroblockLies system (now (frame .entry)) number r ⌝ }
+// Where macroblock b lies: its first byte and its length, 77; zeros where its number is a refusal.
+pub fn macroblock_at(system: u32, frame: &[u8], b: u32) -> Part
+    ensures { λ r. ⌜ MacroblockLies system (now (frame .entry)) b r ⌝ }
 {
     let SystemNumber::Known(y) = layout::system_of(system) else {
         return layout::no_part(1);
     };
-    let refusal = macroblock_number(system, frame, number);
+    let refusal = macroblock_number(system, frame, b);
     if refusal != 0 {
         return layout::no_part(refusal);
     }
-    let Carrier::In(s) = picture::carrier(y, number) else {
+    let Carrier::In(s) = picture::carrier(y, b) else {
         return layout::no_part(refusal);
     };
     Part {
@@ -48,11 +48,11 @@ pub fn macroblock_at(system: u32, frame: &[u8], number: u32) -> Part
     }
 }
 
-// The 77 bytes of a macroblock, a part of the frame; none where its number is a refusal.
-pub fn macroblock(system: u32, frame: &[u8], number: u32) -> &[u8]
-    ensures { λ r. ⌜ MacroblockRead system (now (frame .entry)) number (now r) ⌝ }
+// The 77 bytes of macroblock b, a part of the frame; none where its number is a refusal.
+pub fn macroblock(system: u32, frame: &[u8], b: u32) -> &[u8]
+    ensures { λ r. ⌜ MacroblockRead system (now (frame .entry)) b (now r) ⌝ }
 {
-    let part = macroblock_at(system, frame, number);
+    let part = macroblock_at(system, frame, b);
     let start = part.start as usize;
     let end = start + part.length as usize;
     &frame[start..end]

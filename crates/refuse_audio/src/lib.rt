@@ -34,14 +34,14 @@ pub fn audio_number(system: u32, frame: &[u8], audio: u32, size: usize) -> u32
         return 1;
     };
     let whole = frame.len() == layout::frame_bytes(y);
-    let channel = (0 < audio) & (audio < 9);
+    let within = (0 < audio) & (audio < 9);
     let room = size == (layout::positions(y) as usize);
     if !whole {
         return 2;
     }
     let number = refuse_check::checked(y, frame);
     let own = sound_number(y, frame, audio);
-    if !channel {
+    if !within {
         return 3;
     }
     if !room {

@@ -17,15 +17,15 @@ fn picture_number(y: System, frame: &[u8]) -> u32
     0
 }
 
-// The number of a macroblock read: 1, 2, 3, the frame check's, 23.
-pub fn macroblock_number(system: u32, frame: &[u8], number: u32) -> u32
-    ensures { λ r. ⌜ MacroblockNumbered system (now (frame .entry)) number r ⌝ }
+// The number of a read of macroblock b: 1, 2, 3, the frame check's, 23.
+pub fn macroblock_number(system: u32, frame: &[u8], b: u32) -> u32
+    ensures { λ r. ⌜ MacroblockNumbered system (now (frame .entry)) b r ⌝ }
 {
     let SystemNumber::Known(y) = layout::system_of(system) else {
         return 1;
     };
     let whole = frame.len() == layout::frame_bytes(y);
-    let within = number < layout::macroblocks(y);
+    let within = b < layout::macroblocks(y);
     if !whole {
         return 2;
     }

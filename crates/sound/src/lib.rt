@@ -7,7 +7,5 @@ mod samples;
 pub use places::first_at;
 pub use range::all_in_range;
 pub use samples::number_of;
-pub use samples::sample_in;
 pub use samples::sample_of;
 pub use samples::word_for;
-pub use samples::word_of;

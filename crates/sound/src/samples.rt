@@ -9,7 +9,7 @@ use paper::Sample;
 use paper::SampleNumber;
 
 // The sample of a number.
-pub fn sample_in(x: i32) -> SampleNumber
+fn sample_in(x: i32) -> SampleNumber
     ensures { λ r. ⌜ r ≡ sampleIn x ⌝ }
 {
     if !range::in_range(x) {
@@ -44,7 +44,7 @@ pub fn sample_of(high: u8, low: u8) -> Sample
 }
 
 // The word of a sample; -32,768 as 8001h, since its own bits say lost.
-pub fn word_of(s: Sample) -> u32
+fn word_of(s: Sample) -> u32
     ensures { λ r. ⌜ r ≡ wordOf s ⌝ }
 {
     match s {

@@ -1,13 +1,12 @@
 -- The ways out of the public calls. s is what the code's `system_of` answers, n the frame's bytes. Assumes nothing.
 use mathlib.Core.Path.{_≡_, refl, sym, _∙_}
-use mathlib.Core.List.{List, []}
+use mathlib.Core.List.{List}
 use mathlib.Core.Bool.{Bool, true, false, not}
 use Prim.Native.Nat.{ℕ, _*_}
 use native.Mathlib.Omega.{arith}
 use lib.Dec.{eqb}
 use lib.ListN.{length}
-use borrow.Author.Tests.{eqb-true, eqb-false, eq-eqb, ne-eqb, not-true, not-false}
-use Rattle.base.proofs.Picks.{pick-true, pick-false}
+use borrow.Author.Tests.{eqb-true, eqb-false, not-true, not-false}
 use Rattle.paper.specs.declared.System.{System}
 use Rattle.paper.specs.declared.SystemNumber.the-variants.{Known, NoSystem}
 use Rattle.paper.specs.declared.SystemNumber.{SystemNumber}
@@ -16,12 +15,10 @@ use Rattle.rules_format.specs.Systems.{sequencesOf, systemOf}
 use Rattle.rules_surveys.specs.FaultLists.{frameFaults, faultsIn}
 use Rattle.rules_surveys.specs.Noting.{Noted}
 use Rattle.rules_surveys.specs.Survey.{outsideSequences, refusal, FrameSurveyed, SequenceSurveyed}
-use Rattle.rules_surveys.proofs.Records.{noted-none}
 use Rattle.rules_surveys.proofs.Calls.{inside-means, survey-done, survey-stopped, survey-0, survey-1, survey-2, sequence-0, sequence-1, sequence-3}
 use Rattle.rules_surveys.proofs.Calls.{sequence-4}
 use Rattle.fault_list.specs.Asked.{tallied, nextFaults}
 use Rattle.fault_list.proofs.Next.{next-inside}
-use Rattle.surveys.specs.Asked.{wholeFaults}
 
 module _ (k : ℕ) (s : SystemNumber) (es : s ≡ systemOf k) where
   known-as : (t : SystemNumber) → s ≡ t → systemOf k ≡ t
@@ -63,14 +60,3 @@ module _ (k : ℕ) (s : SystemNumber) (es : s ≡ systemOf k) where
             let whole = eqb-true _ _ (not-false _ el) in
             let i = inside-means y h q (sym eo ∙ f) in
             rw er (survey-done _ _ list list′ t _ (sequence-0 k h q (length part) y (known-as (Known y) e) (sym eo ∙ f) whole) (rw (next-inside y h q part 0 (i .0) (i .1) whole (omega arith)) at nt) refl)
-
--- ---- survey_known
-
-module _ (y : System) (frame list : List ℕ) (n : ℕ) (en : n ≡ 48000 * sequencesOf y) where
-  pub known-none : (length frame ≡ n → ⊥) → Noted list 0 (wholeFaults y frame) list 0
-  unfolding wholeFaults
-  known-none d = rw (pick-false (frameFaults y frame) [] (ne-eqb _ _ (λ e. d (e ∙ sym en)))) (noted-none list 0)
-
-  pub known-surveyed : length frame ≡ n → (list′ : List ℕ) (r : ℕ) → Noted list 0 (frameFaults y frame) list′ r → Noted list 0 (wholeFaults y frame) list′ r
-  unfolding wholeFaults
-  known-surveyed e list′ r nt = rw (pick-true (frameFaults y frame) [] (eq-eqb _ _ (e ∙ en))) nt

@@ -6,7 +6,7 @@ ghost use Rattle.rules_format.specs.Systems.{sequencesOf};
 ghost use Rattle.rules_surveys.specs.FaultLists.{channelFaults, frameFaults};
 ghost use Rattle.rules_surveys.specs.Noting.{Noted};
 ghost use Rattle.rules_surveys.specs.Survey.{FrameSurveyed};
-ghost use Rattle.surveys.specs.Asked.{ChannelAsked, wholeFaults};
+ghost use Rattle.surveys.specs.Asked.{ChannelAsked};
 use layout::CHANNELS;
 use layout::SEQUENCE;
 use paper::Survey;
@@ -44,16 +44,6 @@ fn survey_all(frame: &[u8], y: System, list: &mut [u32]) -> u32
         h += 1;
     }
     total
-}
-
-// The survey of a frame of a known system. Nothing is surveyed where it has not its length.
-pub fn survey_known(y: System, frame: &[u8], list: &mut [u32]) -> u32
-    ensures { λ r. ⌜ Noted (now (list .entry)) 0 (wholeFaults y (now (frame .entry))) (now (list .exit)) r ⌝ }
-{
-    if frame.len() != layout::frame_bytes(y) {
-        return 0;
-    }
-    survey_all(frame, y, list)
 }
 
 // The survey of a frame. Refusals: 1, 2.

@@ -3,5 +3,4 @@ mod frame;
 mod sequence;
 
 pub use frame::survey;
-pub use frame::survey_known;
 pub use sequence::survey_sequence;

@@ -8,37 +8,39 @@ use paper::Place;
 use paper::Section;
 use paper::System;
 use paper::SystemNumber;
+use try_kit::lines;
+use try_kit::values;
 
 // The numbers of a system: sequences, positions, counts, macroblocks, rate, STYPE and the frame's thousands of bytes.
 fn system(number: u32) {
-    try_lines::start(b"system");
-    try_lines::field(number);
+    lines::start(b"system");
+    lines::field(number);
     match layout::system_of(number) {
         SystemNumber::Known(y) => numbers(y),
-        SystemNumber::NoSystem => try_lines::end(),
+        SystemNumber::NoSystem => lines::end(),
     }
 }
 
 fn numbers(y: System) {
     let counts = layout::counts(y);
-    try_lines::field(layout::sequences(y));
-    try_lines::field(layout::positions(y));
-    try_lines::field(counts.fewer);
-    try_lines::field(counts.more);
-    try_lines::field(layout::macroblocks(y));
-    try_lines::field(layout::rate(y));
-    try_lines::field(layout::stype(y));
-    try_lines::field((layout::frame_bytes(y) / 1000 % 65536) as u32);
-    try_lines::end();
+    lines::field(layout::sequences(y));
+    lines::field(layout::positions(y));
+    lines::field(counts.fewer);
+    lines::field(counts.more);
+    lines::field(layout::macroblocks(y));
+    lines::field(layout::rate(y));
+    lines::field(layout::stype(y));
+    lines::field((layout::frame_bytes(y) / 1000 % 65536) as u32);
+    lines::end();
 }
 
 // Which of three numbers are counts of the system, 1 for one that is.
 fn counted(y: System) {
-    try_lines::start(b"counts");
-    try_lines::field(flag(layout::is_count(y, 1600)));
-    try_lines::field(flag(layout::is_count(y, 1602)));
-    try_lines::field(flag(layout::is_count(y, 1920)));
-    try_lines::end();
+    lines::start(b"counts");
+    lines::field(flag(layout::is_count(y, 1600)));
+    lines::field(flag(layout::is_count(y, 1602)));
+    lines::field(flag(layout::is_count(y, 1920)));
+    lines::end();
 }
 
 fn flag(b: bool) -> u32 {
@@ -58,13 +60,13 @@ fn systems() {
 }
 
 fn print_values(number: u32, section: u32, channel: u32, dseq: u32, dbn: u32) {
-    try_lines::start(b"id");
-    try_lines::field(number);
-    try_lines::field(section);
-    try_lines::field(channel);
-    try_lines::field(dseq);
-    try_lines::field(dbn);
-    try_lines::end();
+    lines::start(b"id");
+    lines::field(number);
+    lines::field(section);
+    lines::field(channel);
+    lines::field(dseq);
+    lines::field(dbn);
+    lines::end();
 }
 
 // An ID read: the number, and the values of a named block or zeros.
@@ -84,6 +86,10 @@ fn ids() {
     id(&[0x9F, 0x9B, 0x86]);
     id(&[0x00, 0x00, 0x00]);
     id(&[0x7F, 0xFF, 0xFF]);
+    bad_ids();
+}
+
+fn bad_ids() {
     id(&[0xA0, 0x00, 0x00]);
     id(&[0xFF, 0xFF, 0xFF]);
     id(&[0x1F, 0x07]);
@@ -98,11 +104,11 @@ fn written(section: Section, channel: u32, dseq: u32, dbn: u32) {
         dseq: dseq,
         dbn: BlockNumber(dbn),
     });
-    try_lines::start(b"written");
-    try_lines::field(bytes[0] as u32);
-    try_lines::field(bytes[1] as u32);
-    try_lines::field(bytes[2] as u32);
-    try_lines::end();
+    lines::start(b"written");
+    lines::field(bytes[0] as u32);
+    lines::field(bytes[1] as u32);
+    lines::field(bytes[2] as u32);
+    lines::end();
 }
 
 // A frame's survey with a list of so many numbers out of eight, each 7 before.
@@ -111,42 +117,35 @@ fn survey(system: u32, frame: &[u8], size: usize)
 {
     let mut list = [7u32; 8];
     let s = surveys::survey(system, frame, &mut list[0..size]);
-    try_lines::start(b"survey");
-    try_lines::field(s.number);
-    try_lines::field(s.total);
-    try_lines::field(s.kept);
+    lines::start(b"survey");
+    lines::field(s.number);
+    lines::field(s.total);
+    lines::field(s.kept);
     print_list(&list);
 }
 
 fn survey_sequence(system: u32, channel: u32, sequence: u32, part: &[u8]) {
     let mut list = [7u32; 8];
     let s = surveys::survey_sequence(system, channel, sequence, part, &mut list);
-    try_lines::start(b"sequence");
-    try_lines::field(s.number);
-    try_lines::field(s.total);
-    try_lines::field(s.kept);
+    lines::start(b"sequence");
+    lines::field(s.number);
+    lines::field(s.total);
+    lines::field(s.kept);
     print_list(&list);
 }
 
 fn print_list(list: &[u32; 8]) {
-    try_lines::field(list[0]);
-    try_lines::field(list[1]);
-    try_lines::field(list[2]);
-    try_lines::field(list[3]);
-    try_lines::field(list[4]);
-    try_lines::field(list[5]);
-    try_lines::field(list[6]);
-    try_lines::field(list[7]);
-    try_lines::end();
+    values::print_list(list);
+    lines::end();
 }
 
 // A block view: its number, and the length of its part.
 fn view(system: u32, frame: &[u8], channel: u32, sequence: u32, place: u32) {
-    try_lines::start(b"view");
-    try_lines::field(views::view_number(system, frame, channel, sequence, Place(place)));
+    lines::start(b"view");
+    lines::field(views::view_number(system, frame, channel, sequence, Place(place)));
     let part = views::view(system, frame, channel, sequence, Place(place));
-    try_lines::field((part.len() % 65536) as u32);
-    try_lines::end();
+    lines::field((part.len() % 65536) as u32);
+    lines::end();
 }
 
 // A part of the frame, or all of it where there is no such part.

@@ -4,26 +4,27 @@ use paper::BlockNumber;
 use paper::Carried;
 use paper::Carrier;
 use paper::System;
+use try_kit::lines;
 
 // CM h,i,j,k of a number, in ten rows and in eleven. The edge unit is row 11 of DIF channel 0.
 fn ten_rows(b: u32) {
-    try_lines::field(b / 1350);
-    try_lines::field(b / 135 % 10);
-    try_lines::field(b / 27 % 5);
-    try_lines::field(b % 27);
+    lines::field(b / 1350);
+    lines::field(b / 135 % 10);
+    lines::field(b / 27 % 5);
+    lines::field(b % 27);
 }
 
 fn eleven_rows(b: u32) {
     if b < 5940 {
-        try_lines::field(b / 1485);
-        try_lines::field(b / 135 % 11);
-        try_lines::field(b / 27 % 5);
-        try_lines::field(b % 27);
+        lines::field(b / 1485);
+        lines::field(b / 135 % 11);
+        lines::field(b / 27 % 5);
+        lines::field(b % 27);
     } else {
-        try_lines::field(0);
-        try_lines::field(11);
-        try_lines::field((b - 5940) / 27);
-        try_lines::field((b - 5940) % 27);
+        lines::field(0);
+        lines::field(11);
+        lines::field((b - 5940) / 27);
+        lines::field((b - 5940) % 27);
     }
 }
 
@@ -60,19 +61,19 @@ fn number(y: System) -> u32 {
 }
 
 fn row(table: &[u8], y: System, h: u32, q: u32, v: u32) {
-    try_lines::start(table);
-    try_lines::field(number(y));
-    try_lines::field(h);
-    try_lines::field(q);
-    try_lines::field(v);
+    lines::start(table);
+    lines::field(number(y));
+    lines::field(h);
+    lines::field(q);
+    lines::field(v);
     match picture::carried(y, h, q, BlockNumber(v)) {
         Carried::Macroblock(b) => {
             cm(y, b);
-            try_lines::field(lies(y, b, h, q, v));
+            lines::field(lies(y, b, h, q, v));
         }
         Carried::Nothing => {}
     }
-    try_lines::end();
+    lines::end();
 }
 
 // V0 to V4 of sequence 0.

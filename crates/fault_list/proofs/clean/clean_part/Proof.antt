@@ -4,8 +4,8 @@ use native.Mathlib.Omega.{arith}
 use borrow.Author.Needs.{needs}
 use Rattle.base.specs.Run.{run}
 use Rattle.rules_surveys.specs.FaultLists.{placeFaults}
-use Rattle.fault_list.proofs.Clear.{clean-start, bits-fit, clean-named, clean-places}
-use Rattle.fault_list.specs.Asked.{Clean}
+use Rattle.judged_bits.proofs.Clear.{clean-start, bits-fit, clean-named, clean-places}
+use Rattle.judged_bits.specs.Clean.{Clean}
 use Rattle.fault_list.proofs.clean.clean_part.Statement.{statement}
 use Rattle.fault_list.proofs.clean.clean_part.Tie as tie
 

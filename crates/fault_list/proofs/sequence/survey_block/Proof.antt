@@ -1,7 +1,8 @@
 -- `fault_list::sequence::survey_block` meets its contract: the judged bits are the place's, or the fault is 0, or it is noted. Assumes nothing.
 use native.Mathlib.Omega.{arith}
 use borrow.Author.Needs.{needs}
-use Rattle.fault_list.proofs.Noting.{bits-fit, bits-clean, fault-clean, fault-noted}
+use Rattle.judged_bits.proofs.Clear.{bits-below}
+use Rattle.fault_list.proofs.Noting.{bits-clean, fault-clean, fault-noted}
 use Rattle.fault_list.proofs.sequence.survey_block.Statement.{statement}
 use Rattle.fault_list.proofs.sequence.survey_block.Tie as tie
 
@@ -12,7 +13,7 @@ judged-requires : tie.Need-judged-requires
 judged-requires c κs = search needs
 
 add-if1 : tie.Need-add-if1
-add-if1 c = omega (arith, bits-fit (c .before .before .before .before .pre))
+add-if1 c = omega (arith, bits-below (c .before .before .before .before .pre .0))
 
 returns : tie.Need-returns
 returns c = search (bits-clean, needs)

@@ -1,6 +1,6 @@
 -- `fault_list::sequence::survey_next` meets its contract: one lemma for each way out. Assumes nothing.
 use borrow.Author.Needs.{needs}
-use Rattle.fault_list.proofs.Next.{next-outside, next-wrong-length, next-full, next-clean, next-surveyed, next-asked, clean-asked}
+use Rattle.fault_list.proofs.Next.{next-outside, next-wrong-length, next-full, next-clean, next-surveyed, next-asked}
 use Rattle.fault_list.proofs.sequence.survey_next.Statement.{statement}
 use Rattle.fault_list.proofs.sequence.survey_next.Tie as tie
 
@@ -17,7 +17,7 @@ returns-3 : tie.Need-returns-3
 returns-3 c = search (next-full, needs)
 
 clean-part-requires : tie.Need-clean-part-requires
-clean-part-requires c κs = search (clean-asked, needs)
+clean-part-requires c κs = search (next-asked, needs)
 
 returns-4 : tie.Need-returns-4
 returns-4 c = search (next-clean, needs)

@@ -6,7 +6,8 @@ use Rattle.base.specs.Run.{run}
 use Rattle.rules_surveys.specs.FaultLists.{placeFaults}
 use Rattle.rules_surveys.specs.Noting.{Noted}
 use Rattle.rules_surveys.proofs.Records.{noted-start, noted-length}
-use Rattle.fault_list.proofs.Noting.{block-asked, place-turn, places-done}
+use Rattle.judged_bits.proofs.Clear.{place-asked}
+use Rattle.fault_list.proofs.Noting.{block-few, place-turn, places-done}
 use Rattle.fault_list.proofs.sequence.survey_part.Statement.{statement}
 use Rattle.fault_list.proofs.sequence.survey_part.Tie as tie
 
@@ -50,7 +51,7 @@ array-read-survey-block : tie.Need-array-read-survey-block Inv-loop μ-loop
 array-read-survey-block c = omega arith
 
 survey-block-requires : tie.Need-survey-block-requires Inv-loop μ-loop
-survey-block-requires c κs = search (block-asked, needs)
+survey-block-requires c κs = search (place-asked, block-few, needs)
 
 add-p : tie.Need-add-p Inv-loop μ-loop
 add-p c = omega arith

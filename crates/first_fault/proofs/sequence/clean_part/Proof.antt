@@ -4,8 +4,8 @@ use native.Mathlib.Omega.{arith}
 use borrow.Author.Needs.{needs}
 use Rattle.base.specs.Run.{run}
 use Rattle.rules_surveys.specs.FaultLists.{placeFaults}
-use Rattle.fault_list.proofs.Clear.{clean-start, bits-fit, clean-bits, clean-places}
-use Rattle.fault_list.specs.Asked.{Clean}
+use Rattle.judged_bits.proofs.Clear.{clean-start, bits-fit, clean-bits, clean-places}
+use Rattle.judged_bits.specs.Clean.{Clean}
 use Rattle.first_fault.proofs.sequence.clean_part.Statement.{statement}
 use Rattle.first_fault.proofs.sequence.clean_part.Tie as tie
 

@@ -1,0 +1,79 @@
+// Bytes of the frame that are changed. A block is named by DIF channel, sequence and place.
+ghost use Prim.Native.Nat.{_<_};
+use crate::asks;
+use try_kit::script::Fields;
+use try_kit::values::byte;
+
+// How many sequences stand before this one.
+fn sequence_of(system: u32, h: u32, q: u32) -> u32 {
+    if system % 2 == 1 {
+        return 12 * (h % 4) + q % 16;
+    }
+    10 * (h % 4) + q % 16
+}
+
+// Where a byte of a block stands.
+fn offset(system: u32, h: u32, q: u32, p: u32, byte: u32) -> usize
+    ensures { λ r. ⌜ r < 1000000 ⌝ }
+{
+    let start = (sequence_of(system, h, q) % 64 * 150 + p % 150) * 80;
+    (start + byte % 80) as usize
+}
+
+// Puts a byte, and answers what was there.
+fn put(frame: &mut [u8], at: usize, value: u8) -> u8 {
+    if at < frame.len() {
+        let old = frame[at];
+        frame[at] = value;
+        return old;
+    }
+    0
+}
+
+// A byte of a block is changed, tried and taken back: number, system, block, byte, value.
+pub fn patched(f: Fields, frame: &mut [u8], numbers: &mut [i32]) {
+    let at = offset(f.b, f.c, f.d, f.e, f.f);
+    let old = put(frame, at, byte(f.g));
+    asks::plain(f.a, f.b, frame, numbers);
+    put(frame, at, old);
+}
+
+fn fill_part(frame: &mut [u8], start: usize, n: u32, value: u8)
+    requires { ⌜ start < 1000000 ⌝ }
+{
+    let end = start + ((n % 81) as usize);
+    if end <= frame.len() {
+        base::fill(&mut frame[start..end], value);
+    }
+}
+
+// Bytes of a block of a frame at 60 Hz become a value: block, byte, how many, value.
+pub fn keep(f: Fields, frame: &mut [u8]) {
+    fill_part(frame, offset(0, f.a, f.b, f.c, f.d), f.e, byte(f.f));
+}
+
+fn copy_byte(frame: &mut [u8], from: usize, to: usize) {
+    let n = frame.len();
+    if from < n {
+        if to < n {
+            frame[to] = frame[from];
+        }
+    }
+}
+
+fn copy_block(frame: &mut [u8], from: usize, to: usize)
+    requires { ⌜ (from < 1000000) × (to < 1000000) ⌝ }
+{
+    let mut i: usize = 0;
+    while i < 80 {
+        copy_byte(frame, from + i, to + i);
+        i += 1;
+    }
+}
+
+// A block of a frame at 60 Hz is copied over another, ID and all: from block, to block.
+pub fn over(f: Fields, frame: &mut [u8]) {
+    let from = offset(0, f.a, f.b, f.c, 0);
+    let to = offset(0, f.d, f.e, f.f, 0);
+    copy_block(frame, from, to);
+}
