@@ -10,6 +10,12 @@ use lib.ListN.{getD, replicate}
 use Rattle.base.specs.Pick.{pick}
 use Rattle.paper.specs.Paper.{sequences, fewer, more, rate, stype, lastFrame, asPack, countBy, vsPack, holdsTime, holdsGroup}
 
+-- ---- a pack in a block
+
+-- the five bytes of a block from byte `at` on
+abbrev pub fiveFrom : List ℕ → ℕ → List ℕ
+fiveFrom block at = getD block at 0 ∷ getD block (at + 1) 0 ∷ getD block (at + 2) 0 ∷ getD block (at + 3) 0 ∷ getD block (at + 4) 0 ∷ []
+
 -- ---- what is written
 
 -- 0 in the first n/2 sequences, where the odd audio channels lie, and 1 in the rest

@@ -1,20 +1,46 @@
 -- What an edit of a promise is refused by: each statement leaves one answer, so that a clause that is weakened is noticed. Assumes nothing.
 use mathlib.Core.Path.{_≡_}
 use mathlib.Core.List.{List}
-use Prim.Native.Nat.{ℕ, _+_, _<_}
-use lib.IntN.{ℤ}
+use Prim.Native.Nat.{ℕ, _+_, _-_, _*_, _<_}
+use lib.Dec.{ltb}
+use lib.IntN.{pos, ℤ}
+use lib.ListN.{getD, take, drop}
+use Rattle.base.specs.Pick.{pick}
+use Rattle.paper.specs.Paper.{soundIndex, back, macroblocks, streamFault}
 use Rattle.promises.specs.Contents.{Contents}
-use Rattle.paper.specs.Paper.{macroblocks, streamFault}
 use Rattle.promises.specs.Demand2.{Strict, ReadsBack, IdOut, ViewOut, MacroblockOut, ReadOut, GoesThrough, LaidOut}
 use Rattle.paper.specs.declared.Survey.{Survey}
-use Rattle.promises.specs.Demand3.{Listed, Salvages}
+use Rattle.promises.specs.Demand3.{Listed, SalvageOut, Salvages, SampleSalvaged}
 use Rattle.rules_format.proofs.Paper.{known-system}
-use Rattle.promises.proofs.One.{listed-one, ids-one, views-one, macroblocks-one, reads-one, reads-back-one, salvages-one, coasting}
+use Rattle.promises.proofs.One.{listed-one, ids-one, views-one, macroblocks-one, reads-one, reads-back-one, salvages-one, salvage-out-one}
+use Rattle.promises.proofs.One.{untouched-one, coasting}
 use Rattle.paper.specs.declared.Place.{Place}
 use Rattle.paper.specs.declared.IdAnswer.{IdAnswer}
 use Rattle.paper.specs.declared.IdValues.{IdValues}
 use Rattle.paper.specs.declared.Part.{Part}
 use Rattle.promises.proofs.LaidOut.{laid-out-one}
+use Rattle.promises.specs.Refusals.{idTable, surveyTable, salvageTable, sequenceTable, viewTable, checkTable, audioTable, macroblockTable, timeTable}
+use Rattle.promises.specs.Refusals.{writeTable}
+use Rattle.promises.proofs.OneNumber.{One, id-one, survey-one, salvage-one, sequence-one, view-one, check-one, audio-one, macroblock-one, time-one}
+use Rattle.promises.proofs.OneNumber.{write-one}
+
+-- ---- 1: a refusal table gives one number at most
+
+pub one-number : (k h q p c b size room : ℕ) (f id : List ℕ) (l : Contents)
+    → One (idTable id) × One (surveyTable k size) × One (sequenceTable k h q size) × One (viewTable k f h q p) × One (checkTable k f)
+    × One (audioTable k f c room) × One (macroblockTable k f b) × One (timeTable k f) × One (salvageTable k size room) × One (writeTable k l size)
+one-number k h q p c b size room f id l = (
+  id-one id,
+  survey-one k size,
+  sequence-one k h q size,
+  view-one k f h q p,
+  check-one k f,
+  audio-one k f c room,
+  macroblock-one k f b,
+  time-one k f,
+  salvage-one k size room,
+  write-one k l size,
+)
 
 -- ---- 2: what is read
 
@@ -55,3 +81,12 @@ one-salvage = salvages-one
 pub not-coasting : {n first m : ℕ} {bytes list list′ : List ℕ} {r : Survey} → Listed n bytes first m list r list′ → r .total ≡ 0 → (j : ℕ) → j < m
     → streamFault n bytes j (first + j) ≡ 0
 not-coasting = coasting
+
+pub one-salvage-out : {k : ℕ} {g : List ℕ} {samples samples′ : List ℤ} → SalvageOut k g samples → SalvageOut k g samples′ → samples ≡ samples′
+one-salvage-out = salvage-out-one
+
+-- an untouched block alone decides
+pub one-untouched : {n : ℕ} {l : Contents} {f g : List ℕ} {c t : ℕ} {x : ℤ} → SampleSalvaged n l f g c t x
+    → take 80 (drop (soundIndex n c t * 80) g) ≡ take 80 (drop (soundIndex n c t * 80) f)
+    → x ≡ pick (ltb t (l .count)) (back (getD (l .sound) ((c - 1) * l .count + t) (pos 0))) (pos 0)
+one-untouched = untouched-one

@@ -2,4 +2,5 @@ pub mod Tables
 pub mod Answering
 pub mod LaidOut
 pub mod One
+pub mod OneNumber
 pub mod Headlines

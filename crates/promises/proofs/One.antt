@@ -9,12 +9,12 @@ use lib.Seq.{ext-getD, getD-drop}
 use Rattle.base.specs.Run.{run}
 use Rattle.base.proofs.Cases.{by-lt, by-eq}
 use Rattle.promises.specs.Contents.{Contents}
-use Rattle.paper.specs.Paper.{sequences, records, positions, macroblocks, streamFault}
+use Rattle.paper.specs.Paper.{sequences, records, positions, macroblocks, streamFault, soundIndex, back}
 use Rattle.promises.specs.Demand2.{Strict, ReadsBack, IdOut, ViewOut, MacroblockOut, ReadOut, GoesThrough}
-use lib.Dec.{eqb}
+use lib.Dec.{eqb, ltb}
 use Rattle.base.specs.Pick.{pick}
 use Rattle.paper.specs.declared.Survey.{Survey}
-use Rattle.promises.specs.Demand3.{Listed, faultFor, Salvages}
+use Rattle.promises.specs.Demand3.{Listed, faultFor, SalvageOut, Salvages, SampleSalvaged}
 use native.Mathlib.Nat.{div-add-mod', mod-lt, div-lt-iff-lt-mul, not-suc-le-zero}
 use borrow.Author.Tests.{ne-eqb}
 use Rattle.base.proofs.Picks.{pick-false}
@@ -136,20 +136,19 @@ pub coasting : {n first m : ℕ} {bytes list list′ : List ℕ} {r : Survey} �
     → (j : ℕ) → j < m → streamFault n bytes j (first + j) ≡ 0
 coasting {n} {first} {m} {bytes} s z j h = records-none n bytes first m j (omega (arith, z, s .total)) h
 
--- ---- Salvages
+-- ---- SalvageOut, Salvages
 
-module _ {k : ℕ} {l : Contents} {f g list list₁ list₂ : List ℕ} {r r′ : Survey} {samples samples′ : List ℤ} (a : Salvages k l f g list r samples list₁)
-    (b : Salvages k l f g list r′ samples′ list₂) where
+module _ {k : ℕ} {g : List ℕ} {samples samples′ : List ℤ} (a : SalvageOut k g samples) (b : SalvageOut k g samples′) where
   -- a position's block names its place or does not
   position-one : (c t : ℕ) → 0 < c → c < 9 → t < positions k
       → getD samples ((c - 1) * positions k + t) (pos 0) ≡ getD samples′ ((c - 1) * positions k + t) (pos 0)
   position-one c t c1 c8 ht =
       by-eq (faultFor (sequences k) g c t) 0
-      (λ e. a .sample c t c1 c8 ht .now-there .renamed e ∙ sym (b .sample c t c1 c8 ht .now-there .renamed e))
-      (λ d. a .sample c t c1 c8 ht .now-there .unnamed d ∙ sym (b .sample c t c1 c8 ht .now-there .unnamed d))
+      (λ e. a .position c t c1 c8 ht .renamed e ∙ sym (b .position c t c1 c8 ht .renamed e))
+      (λ d. a .position c t c1 c8 ht .unnamed d ∙ sym (b .position c t c1 c8 ht .unnamed d))
 
-  samples-one : samples ≡ samples′
-  samples-one =
+  pub salvage-out-one : samples ≡ samples′
+  salvage-out-one =
       ext-getD (pos 0) samples samples′ (a .size ∙ sym (b .size)) (λ i h.
       let w : ℕ = positions k in
       let below : i < 8 * w = subst (λ (n : ℕ). i < n) (a .size) h in
@@ -160,5 +159,18 @@ module _ {k : ℕ} {l : Contents} {f g list list₁ list₂ : List ℕ} {r r′ 
       subst (λ (j : ℕ). getD samples j (pos 0) ≡ getD samples′ j (pos 0)) (div-add-mod' i w)
       (subst (λ (x : ℕ). getD samples (x * w + i % w) (pos 0) ≡ getD samples′ (x * w + i % w) (pos 0)) e here))
 
+module _ {k : ℕ} {l : Contents} {f g list list₁ list₂ : List ℕ} {r r′ : Survey} {samples samples′ : List ℤ} (a : Salvages k l f g list r samples list₁)
+    (b : Salvages k l f g list r′ samples′ list₂) where
   pub salvages-one : (r ≡ r′) × (samples ≡ samples′) × (list₁ ≡ list₂)
-  salvages-one = let one = listed-one (a .faults) (b .faults) (a .number ∙ sym (b .number)) in (one .0, samples-one, one .1)
+  salvages-one =
+      let one = listed-one (a .faults) (b .faults) (a .number ∙ sym (b .number)) in
+      let here : SalvageOut k g samples = record { size = a .size; position = λ c t c1 c8 ht. a .sample c t c1 c8 ht .now-there } in
+      let there : SalvageOut k g samples′ = record { size = b .size; position = λ c t c1 c8 ht. b .sample c t c1 c8 ht .now-there } in
+      (one .0, salvage-out-one here there, one .1)
+
+-- ---- SampleSalvaged: an untouched block alone decides
+
+pub untouched-one : {n : ℕ} {l : Contents} {f g : List ℕ} {c t : ℕ} {x : ℤ} → SampleSalvaged n l f g c t x
+    → take 80 (drop (soundIndex n c t * 80) g) ≡ take 80 (drop (soundIndex n c t * 80) f)
+    → x ≡ pick (ltb t (l .count)) (back (getD (l .sound) ((c - 1) * l .count + t) (pos 0))) (pos 0)
+untouched-one s e = s .untouched e

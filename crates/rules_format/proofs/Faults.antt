@@ -2,7 +2,7 @@
 use mathlib.Core.Path.{_≡_, refl, ap}
 use mathlib.Core.Bool.{true, false}
 use mathlib.Core.List.{List, _++_}
-use mathlib.Core.Logic.{inl, inr}
+use mathlib.Core.Logic.{_⊎_, inl, inr}
 use Prim.Native.Nat.{ℕ, _+_, _≤_, _<_}
 use native.Mathlib.Omega.{arith}
 use lib.ListN.{length, take}
@@ -18,10 +18,14 @@ use Rattle.paper.specs.declared.IdAnswer.{IdAnswer}
 use Rattle.paper.specs.declared.IdAnswer.the-variants.{Named, Reserved, WrongLength}
 use Rattle.rules_format.specs.Places.{codeOf, place, entryAt}
 use Rattle.rules_format.specs.Ids.{blockAnswer, idBytes, idAt}
-use Rattle.rules_format.specs.Faults.{misnamed, faultOf, faultAt, FaultNumber, NamesPlace, names}
+use Rattle.rules_format.specs.Faults.{misnamed, faultOf, faultAt, NamesPlace, names}
 use Rattle.rules_format.specs.Stream.{named}
 use Rattle.rules_format.proofs.Places.{code-one, number-below}
 use Rattle.rules_format.proofs.Ids.{answer-written, answer-long}
+
+-- no fault, or one of 11 to 15
+abbrev pub FaultNumber : ℕ → Type 0
+FaultNumber k = (k ≡ 0) ⊎ ((10 < k) × (k < 16))
 
 -- ---- misnamed: 0 exactly when section, channel, Dseq and DBN are all the place's
 

@@ -1,7 +1,7 @@
 -- The workshop of this crate's headline: its definitions in document 01's own numbers. Assumes nothing.
 use mathlib.Core.Path.{_≡_, refl, sym, ap, _∙_}
 use mathlib.Core.Bool.{_||_}
-use mathlib.Core.List.{List}
+use mathlib.Core.List.{List, _∷_, []}
 use Prim.Native.Nat.{ℕ, _+_, _*_, _/_, _%_, _≤_, _<_}
 use native.Mathlib.Nat.{mul-add-div, div-eq-of-lt, mul-add-mod-self-left, mod-eq-of-lt}
 use native.Mathlib.Omega.{arith}
@@ -17,7 +17,7 @@ use Rattle.paper.specs.declared.System.{System}
 use Rattle.paper.specs.declared.System.the-variants.{I60, I50, P60, P50}
 use Rattle.rules_format.specs.Systems.{sequencesOf, halfOf, positionsOf, isCount}
 use Rattle.rules_format.specs.Places.{codeOf, sectionOf, place, places, entryAt}
-use Rattle.rules_format.specs.Blocks.{blockAt}
+use Rattle.rules_format.specs.Blocks.{blockAt, sequenceAt, blockIn}
 use Rattle.rules_format.specs.Samples.{numberOf, inRange, wordAt}
 use Rattle.rules_format.specs.Samples
 use Rattle.rules_format.specs.Sound.{difOf, rankOf, sequenceOf, soundPlace, byteOf}
@@ -25,18 +25,19 @@ use Rattle.rules_format.specs.Faults.{names}
 use Rattle.rules_format.specs.Stream.{named}
 use Rattle.rules_format.specs.Reading.{soundBlock, soundNamed, readSample}
 use Rattle.paper.specs.Paper
-use Rattle.paper.specs.Paper.{soundStart, soundWord, sampleBy, figure3}
+use Rattle.paper.specs.Paper.{soundStart, soundWord, sampleBy, figure3, channelBits}
 use Rattle.rules_format.specs.InNumbers.{InNumbers}
 use Rattle.rules_format.proofs.Systems.{system-number, system-above, half-cases, half-twice, positions-half, sequences-some}
-use Rattle.rules_format.proofs.Places.{place-for-entry, place-for-none, place-of-entry, entry-of-place}
+use Rattle.rules_format.proofs.Places.{place-for-entry, place-for-none, place-of-entry, entry-of-place, number-below}
 use Rattle.rules_format.proofs.Ids.{channel-pairs, read-id-0, read-id-11, read-id-4}
 use Rattle.rules_format.proofs.Blocks.{start-within, block-in-sequence, part-taken, part-refused}
-use Rattle.rules_format.proofs.Samples.{lost-word, sample-lost, sample-level, sample-none, heard-is, word-is, back-is}
-use Rattle.rules_format.proofs.Sound.{rank-below, audio-below, word-below, sequence-below}
+use Rattle.rules_format.proofs.Samples.{lost-word, sample-lost, sample-level, sample-none, heard-is, word-is, back-is, all-in, all-pass}
+use Rattle.rules_format.proofs.Sound.{rank-below, audio-below, word-below, sequence-below, sample-back, audio-sequence, rank-sequence}
 use Rattle.rules_format.proofs.Faults.{names-place, names-none}
-use Rattle.rules_format.proofs.Paper.{id-is, fault-is, channel-by, block-bytes}
+use Rattle.rules_format.proofs.Paper.{id-is, fault-is, channel-by, block-bytes, figure-section, figure-number}
 use Rattle.rules_format.proofs.Reading.{salvaged-named, salvaged-lost}
-use Rattle.rules_format.specs.Ids.{namedBy}
+use Rattle.rules_format.specs.Ids.{namedBy, idAt, idBytes}
+use Rattle.rules_format.proofs.Blocks
 
 -- ---- isCount
 
@@ -134,10 +135,17 @@ places-are : tab (λ (p : ℕ). (codeOf (entryAt (place p) .section), entryAt (p
 unfolding tab run entryAt places figure3
 places-are = refl
 
+ids-are : (h q p : ℕ) → h < 4 → q < 16 → p < 150
+    → idBytes (idAt h q (place p)) ≡ (32 * Paper.sectionAt p + 31) ∷ (16 * q + 4 * channelBits h + 3) ∷ Paper.numberAt p ∷ []
+unfolding idAt
+ids-are h q p hh hq hp =
+    id-is (entryAt (place p) .section) h q (entryAt (place p) .number .0) hh hq (omega (arith, number-below p hp))
+    ∙ rw (figure-section p, figure-number p) refl
+
 -- ---- all
 
 pub in-numbers : InNumbers
-unfolding sectionOf pick firstOf run namedBy
+unfolding sectionOf pick firstOf run namedBy sequenceAt blockIn
 in-numbers = record {
   systems = (
     record { system = system-number I60; numbers = (refl, refl, refl, refl, refl, refl) },
@@ -176,4 +184,28 @@ in-numbers = record {
   heard = sound-heard;
   salvaged = salvaged-named;
   salvaged-lost = salvaged-lost;
+  in-system = λ y test rows. (refl, refl, refl, refl, refl, refl);
+  in-none = λ test rows. (refl, refl, refl);
+  system-numbers = (refl, refl, refl, refl);
+  codes = (refl, refl, refl, refl, refl);
+  places-in = λ k. (refl, refl, refl, refl, refl);
+  bits = λ id. (refl, refl, refl, refl, refl);
+  ids-at = ids-are;
+  starts = λ y h q p. refl;
+  sequence-bytes = λ y f h q. refl;
+  block-bytes = λ f p. refl;
+  part-bytes = λ f r. refl;
+  holds-says = λ y k h q p i b. (b .channel, b .sequence, b .place, b .offset, b .is);
+  holds-cover = Blocks.holds-some;
+  holds-one = λ y k h q p i h′ q′ p′ i′ a b. Blocks.holds-one a b;
+  holds-within = λ y k h q p i b. Blocks.holds-within b;
+  names-in = λ block h q p l. ap (λ (x : ℕ). eqb x 0) (fault-is block h q p l);
+  blocks-count = λ y. omega arith;
+  all-in-range = λ xs e i l. all-in xs i e l;
+  all-passes = all-pass;
+  sample-numbers = λ z. (refl, refl);
+  sound-parts = λ s c t. (refl, refl, refl, refl, refl);
+  sound-back = λ s half t. sample-back s half t;
+  sound-first = λ s r a w. refl;
+  audio-back = λ s half c r hc hr. (audio-sequence s c r half hr hc, rank-sequence s c r half hr);
 }

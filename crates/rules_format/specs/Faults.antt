@@ -1,9 +1,8 @@
 -- The fault of a block where it stands (document 01, "Refusal numbers and their order").
 use mathlib.Core.Path.{_≡_}
 use mathlib.Core.List.{List, [], _∷_}
-use mathlib.Core.Logic.{_⊎_}
 use mathlib.Core.Bool.{Bool, not}
-use Prim.Native.Nat.{ℕ, _<_}
+use Prim.Native.Nat.{ℕ}
 use lib.Dec.{eqb}
 use Rattle.base.specs.Calls.{firstOf, _when_}
 use Rattle.paper.specs.declared.Entry.{Entry}
@@ -30,10 +29,6 @@ faultOf WrongLength h q e = idValues WrongLength .number
 -- the fault of a block at place p of sequence q of DIF channel h, by the answer to its ID; 0 for none
 unfoldable pub faultAt : List ℕ → ℕ → ℕ → ℕ → ℕ
 faultAt block h q p = faultOf (blockAnswer block) h q (entryAt (place p))
-
--- no fault, or one of 11 to 15
-abbrev pub FaultNumber : ℕ → Type 0
-FaultNumber k = (k ≡ 0) ⊎ ((10 < k) × (k < 16))
 
 -- "A block names its place when section, channel, Dseq and DBN all do."
 pub record NamesPlace (block : List ℕ) (h q p : ℕ) : Type 0 where

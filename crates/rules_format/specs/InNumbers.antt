@@ -1,10 +1,22 @@
 -- What the definitions of this crate are in document 01's own numbers (`paper`). The laws above go through it, and it says what no call shows, as the way
 -- back from a block to its place.
 use mathlib.Core.Path.{_≡_}
-use mathlib.Core.Bool.{true, false, _||_}
+use mathlib.Core.Bool.{true, false, _||_, Bool}
 use mathlib.Core.List.{List, [], _∷_}
-use mathlib.Core.Logic.{_≢_}
-use Prim.Native.Nat.{ℕ, _+_, _*_, _/_, _%_, _≤_, _<_}
+use mathlib.Core.Logic.{_⊎_, _≢_}
+use Rattle.base.specs.Calls.{Refusal}
+use Rattle.paper.specs.declared.Part.{Part}
+use Rattle.rules_format.specs.Systems.{numberOfSystem, isNoSystem, sequencesIn, positionsIn, passes, rowsIn, frameBytes, sequencesOf, halfOf}
+use Rattle.rules_format.specs.Systems.{positionsOf, countsOf, isCount, macroblocksOf, systemOf, rateOf, stypeOf}
+use Rattle.rules_format.specs.Blocks
+use Rattle.rules_format.specs.Blocks.{startOf, Holds, blockAt, blockIn, sequenceAt, partAt}
+use Rattle.rules_format.specs.Places.{placeIn, codeOf, sectionOf, place, entryAt, placeFor, placeOf}
+use Rattle.rules_format.specs.Ids.{idAt, sectionBits, dseqBits, fscBit, fspBit, dbnByte, channelOf, idBytes, idOf, idAnswer, idValues}
+use Rattle.rules_format.specs.Samples.{allInRange, numberOf, inRange, sampleIn, sampleOf, wordFor, backOf, bytesOf}
+use Rattle.rules_format.specs.Sound.{difOf, halfAt, rankOf, audioOf, wordNumber, audioAt, rankAt, firstAt, sampleAt, byteOf}
+use Rattle.rules_format.specs.Faults
+use Rattle.rules_format.specs.Stream.{blocksIn, named}
+use Prim.Native.Nat.{_-_, ℕ, _+_, _*_, _/_, _%_, _≤_, _<_}
 use lib.Dec.{eqb, leb}
 use lib.IntN.{ℤ, pos, negsuc}
 use lib.ListN.{length, getD, take, drop}
@@ -22,14 +34,7 @@ use Rattle.paper.specs.declared.Found.the-variants.{At}
 use Rattle.paper.specs.declared.Section.the-variants.{Header, Subcode, Vaux, Audio, Video}
 use Rattle.paper.specs.declared.BlockId.{BlockId}
 use Rattle.paper.specs.declared.IdAnswer.the-variants.{Named, Reserved, WrongLength}
-use Rattle.rules_format.specs.Systems.{sequencesOf, halfOf, positionsOf, countsOf, isCount, macroblocksOf, systemOf, rateOf, stypeOf}
-use Rattle.rules_format.specs.Blocks.{blockAt, blockIn, sequenceAt, partAt}
-use Rattle.rules_format.specs.Places.{codeOf, sectionOf, place, entryAt, placeFor, placeOf}
-use Rattle.rules_format.specs.Ids.{channelOf, idBytes, idOf, idAnswer, idValues}
-use Rattle.rules_format.specs.Samples.{numberOf, inRange, sampleIn, sampleOf, wordFor, backOf, bytesOf}
-use Rattle.rules_format.specs.Sound.{byteOf}
 use Rattle.rules_format.specs.Faults.{faultAt, NamesPlace}
-use Rattle.rules_format.specs.Stream.{named}
 use Rattle.rules_format.specs.Reading.{soundBlock, soundNamed, readSample, salvagedSample}
 use Rattle.paper.specs.Paper
 use Rattle.paper.specs.Paper.{figure3, channelBits, channelBy, bytesAt, fault, sampleBy}
@@ -105,3 +110,39 @@ pub record InNumbers : Type 0 where
   pub heard : (y : System) (g : List ℕ) (c t : ℕ) → t < positionsOf y → numberOf (readSample y g c t) ≡ sampleBy (Paper.soundWord (sequencesOf y) g c t)
   pub salvaged : (y : System) (g : List ℕ) (c t : ℕ) → soundNamed y g c t ≡ true → salvagedSample y g c t ≡ readSample y g c t
   pub salvaged-lost : (y : System) (g : List ℕ) (c t : ℕ) → soundNamed y g c t ≡ false → salvagedSample y g c t ≡ Lost
+  pub in-system : (y : System) (test : System → Bool) (rows : System → List Refusal)
+      → (isNoSystem (Known y) ≡ false) × (sequencesIn (Known y) ≡ sequencesOf y) × (positionsIn (Known y) ≡ positionsOf y)
+      × (frameBytes (Known y) ≡ 48000 * sequencesOf y) × (passes test (Known y) ≡ test y) × (rowsIn (Known y) rows ≡ rows y)
+  pub in-none : (test : System → Bool) (rows : System → List Refusal)
+      → (isNoSystem NoSystem ≡ true) × (passes test NoSystem ≡ false) × (rowsIn NoSystem rows ≡ [])
+  pub system-numbers : (numberOfSystem I60 ≡ 0) × (numberOfSystem I50 ≡ 1) × (numberOfSystem P60 ≡ 2) × (numberOfSystem P50 ≡ 3)
+  pub codes : (codeOf Header ≡ 0) × (codeOf Subcode ≡ 1) × (codeOf Vaux ≡ 2) × (codeOf Audio ≡ 3) × (codeOf Video ≡ 4)
+  pub places-in : (k : ℕ) → (placeIn Header k ≡ k) × (placeIn Subcode k ≡ 1 + k) × (placeIn Vaux k ≡ 3 + k) × (placeIn Audio k ≡ 6 + 16 * k)
+      × (placeIn Video k ≡ Paper.slotPlace k)
+  pub bits : (id : List ℕ) → (sectionBits id ≡ getD id 0 0 / 32) × (dseqBits id ≡ getD id 1 0 / 16) × (fscBit id ≡ getD id 1 0 / 8 % 2)
+      × (fspBit id ≡ getD id 1 0 / 4 % 2) × (dbnByte id ≡ getD id 2 0)
+  pub ids-at : (h q p : ℕ) → h < 4 → q < 16 → p < 150
+      → idBytes (idAt h q (place p)) ≡ (32 * Paper.sectionAt p + 31) ∷ (16 * q + 4 * channelBits h + 3) ∷ Paper.numberAt p ∷ []
+  pub starts : (y : System) (h q p : ℕ) → startOf y h q p ≡ Paper.start (sequencesOf y) h q p
+  pub sequence-bytes : (y : System) (f : List ℕ) (h q : ℕ) → sequenceAt y f h q ≡ take 12000 (drop ((sequencesOf y * h + q) * 12000) f)
+  pub block-bytes : (f : List ℕ) (p : ℕ) → blockIn f p ≡ take 80 (drop (p * 80) f)
+  pub part-bytes : (f : List ℕ) (r : Part) → Blocks.bytesOf f r ≡ take (r .length) (drop (r .start) f)
+  pub holds-says : (y : System) (k h q p i : ℕ) → Holds y k h q p i
+      → (h < 4) × (q < sequencesOf y) × (p < 150) × (i < 80) × (k ≡ Paper.start (sequencesOf y) h q p + i)
+  pub holds-cover : (y : System) (k : ℕ) → k < 48000 * sequencesOf y
+      → Holds y k (k / 80 / 150 / sequencesOf y) (k / 80 / 150 % sequencesOf y) (k / 80 % 150) (k % 80)
+  pub holds-one : (y : System) (k h q p i h′ q′ p′ i′ : ℕ) → Holds y k h q p i → Holds y k h′ q′ p′ i′ → (h ≡ h′) × (q ≡ q′) × (p ≡ p′) × (i ≡ i′)
+  pub holds-within : (y : System) (k h q p i : ℕ) → Holds y k h q p i → k < 48000 * sequencesOf y
+  pub names-in : (block : List ℕ) (h q p : ℕ) → 3 ≤ length block
+      → Faults.names block h q p ≡ eqb (fault (getD block 0 0) (getD block 1 0) (getD block 2 0) h q p) 0
+  pub blocks-count : (y : System) → blocksIn y ≡ 600 * sequencesOf y
+  pub all-in-range : (xs : List ℤ) → allInRange xs ≡ true → (i : ℕ) → i < length xs → inRange (getD xs i (pos 0)) ≡ true
+  pub all-passes : (xs : List ℤ) → ((i : ℕ) → i < length xs → inRange (getD xs i (pos 0)) ≡ true) → allInRange xs ≡ true
+  pub sample-numbers : (z : ℤ) → (numberOf (Level z) ≡ z) × (numberOf Lost ≡ pos 32768)
+  pub sound-parts : (s c t : ℕ) → (difOf c ≡ (c - 1) / 2) × (halfAt c ≡ (c + 1) % 2) × (rankOf s t ≡ (t / 3 + 2 * (t % 3)) % s)
+      × (audioOf s t ≡ 3 * (t % 3) + t % (9 * s) / (3 * s)) × (wordNumber s t ≡ t / (9 * s))
+  pub sound-back : (s : ℕ) → (s ≡ 5) ⊎ (s ≡ 6) → (t : ℕ)
+      → sampleAt s ((t / 3 + 2 * (t % 3)) % s) (3 * (t % 3) + t % (9 * s) / (3 * s)) (t / (9 * s)) ≡ t
+  pub sound-first : (s r a w : ℕ) → sampleAt s r a w ≡ 9 * s * w + firstAt s r a
+  pub audio-back : (s : ℕ) → (s ≡ 5) ⊎ (s ≡ 6) → (c r : ℕ) → 0 < c → r < s
+      → (audioAt s ((c - 1) / 2) (s * ((c + 1) % 2) + r) ≡ c) × (rankAt s (s * ((c + 1) % 2) + r) ≡ r)

@@ -17,6 +17,9 @@ use Rattle.rules_packs.proofs.Written.{header-form, half-first, time-be
 use Rattle.rules_packs.proofs.Written.{vaux-form, aaux-form}
 use Rattle.rules_packs.proofs.Judged.{vs-same, vs-wrong, vs-right, as-same, as-wrong, as-right, count-by, time-wrong, time-right, taken-wrong}
 use Rattle.rules_packs.proofs.Judged.{taken-right}
+use Rattle.rules_packs.proofs.Packs.{time-means, time-when}
+use Rattle.rules_packs.proofs.Vaux.{vs-means, vs-when}
+use Rattle.rules_packs.proofs.Aaux.{as-means, as-when}
 
 -- ---- all
 
@@ -50,4 +53,9 @@ in-bytes k y known = record {
   as-wrong = as-wrong k y known;
   as-right = as-right k y known;
   count = λ p. count-by (p .pc1 % 64);
+  packs = λ p. (refl, refl);
+  pack-in = λ block at. refl;
+  clock-clauses = λ p. (time-means y p, time-when y p);
+  vs-clauses = λ p. (vs-means y p, vs-when y p);
+  as-clauses = λ c p. (as-means y c p, as-when y c p);
 }

@@ -13,18 +13,14 @@ use Rattle.paper.specs.declared.Pack.{Pack}
 use Rattle.paper.specs.declared.SubcodePack.the-variants.{TimeCode, BinaryGroup}
 use Rattle.rules_format.specs.Systems.{halfOf, sequencesOf}
 use Rattle.rules_format.specs.Sound.{audioAt}
-use Rattle.rules_packs.specs.Packs.{packBytes}
+use Rattle.rules_packs.specs.Packs.{packBytes, packIn, fourBytes}
+use Rattle.rules_packs.specs.TimeCode.{Clock, timePack, groupPack, timeOk, groupOk, timeTaken}
+use Rattle.rules_packs.specs.Vaux.{Vs, vsAt, vauxPack, vauxBytes, vauxBlock, vauxIn, vsOk}
+use Rattle.rules_packs.specs.Aaux.{As, asAt, aauxPack, aauxIn, countIn, asOk}
 use Rattle.rules_packs.specs.Header.{headerBytes, dsfOk, flagged}
 use Rattle.rules_packs.specs.Subcode.{isFirst, kindOf, ssyb, subcodeBytes, ssybPack}
-use Rattle.rules_packs.specs.TimeCode.{timePack, groupPack, timeOk, groupOk, timeTaken}
-use Rattle.rules_packs.specs.Vaux.{vsAt, vauxPack, vauxBytes, vauxBlock, vauxIn, vsOk}
-use Rattle.rules_packs.specs.Aaux.{asAt, aauxPack, aauxIn, countIn, asOk}
 use Rattle.paper.specs.Paper.{sequences, rate, asPack, countBy, vsPack, vauxPlace, vauxByte, ssybByte, holdsTime, holdsGroup}
-use Rattle.paper.specs.Bytes.{headerForm, ssybForm, vauxForm, aauxForm, sizeForm, WrongVs, WrongAs, WrongClock, WrongTime}
-
--- the five bytes of a block from byte `at` on
-abbrev pub fiveFrom : List ℕ → ℕ → List ℕ
-fiveFrom block at = getD block at 0 ∷ getD block (at + 1) 0 ∷ getD block (at + 2) 0 ∷ getD block (at + 3) 0 ∷ getD block (at + 4) 0 ∷ []
+use Rattle.paper.specs.Bytes.{fiveFrom, headerForm, ssybForm, vauxForm, aauxForm, sizeForm, WrongVs, WrongAs, WrongClock, WrongTime}
 
 pub record InBytes (k : ℕ) (y : System) : Type 0 where
   -- ---- header
@@ -64,3 +60,16 @@ pub record InBytes (k : ℕ) (y : System) : Type 0 where
   pub as-wrong : (c : ℕ) (p : Pack) → asOk y c p ≡ false → WrongAs k c (p .pc0) (p .pc1) (p .pc2) (p .pc3) (p .pc4)
   pub as-right : (c : ℕ) (p : Pack) → asOk y c p ≡ true → WrongAs k c (p .pc0) (p .pc1) (p .pc2) (p .pc3) (p .pc4) → ⊥
   pub count : (p : Pack) → countIn p ≡ countBy (p .pc1 % 64)
+  -- a pack in a block, and its bytes
+  pub packs : (p : Pack) → (packBytes p ≡ p .pc0 ∷ p .pc1 ∷ p .pc2 ∷ p .pc3 ∷ p .pc4 ∷ []) × (fourBytes p ≡ p .pc1 ∷ p .pc2 ∷ p .pc3 ∷ p .pc4 ∷ [])
+  pub pack-in : (block : List ℕ) (at : ℕ) → packIn block at ≡ record {
+    pc0 = getD block at 0;
+    pc1 = getD block (at + 1) 0;
+    pc2 = getD block (at + 2) 0;
+    pc3 = getD block (at + 3) 0;
+    pc4 = getD block (at + 4) 0;
+  }
+  -- the records of clauses are the tests
+  pub clock-clauses : (p : Pack) → (timeOk y p ≡ true → (p .pc0 ≡ 0x13) × Clock y p) × (p .pc0 ≡ 0x13 → Clock y p → timeOk y p ≡ true)
+  pub vs-clauses : (p : Pack) → (vsOk y p ≡ true → Vs y p) × (Vs y p → vsOk y p ≡ true)
+  pub as-clauses : (c : ℕ) (p : Pack) → (asOk y c p ≡ true → As y c p) × (As y c p → asOk y c p ≡ true)

@@ -19,7 +19,7 @@ use Rattle.paper.specs.Paper
 use Rattle.paper.specs.Paper.{tenRows, elevenRows, carried, macroblocks}
 use Rattle.rules_picture.specs.Slots.{SlotOf, SlotsInNumbers}
 use Rattle.rules_picture.proofs.Ruled.{within-there}
-use Rattle.rules_picture.proofs.Picture.{carrier-one, carried-inside, carried-lies, carrier-past}
+use Rattle.rules_picture.proofs.Picture.{carrier-carries, carrier-one, carried-inside, carried-lies, carrier-past}
 use Rattle.rules_format.proofs.Paper.{columns, number-known, known-system}
 
 -- ---- carriedIn: what the slot V(5g+m) carries
@@ -85,6 +85,8 @@ pub slots-are : SlotsInNumbers
 unfolding within tenCarries elevenCarries pick
 slots-are = record {
   slots = λ k y known h q g m hh hq hg hm. carried-is h q g m hg hm k y known hh hq;
+  slot-is = λ h q v. refl;
+  carries-back = carrier-carries;
   all-carried = slot-of;
   lies = carried-lies;
   lies-past = carrier-past;

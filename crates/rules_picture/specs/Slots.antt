@@ -8,7 +8,7 @@ use Rattle.paper.specs.declared.Carried.the-variants.{Macroblock}
 use Rattle.paper.specs.declared.Carrier.the-variants.{In, NoSlot}
 use Rattle.paper.specs.declared.Slot.{Slot}
 use Rattle.rules_format.specs.Systems.{sequencesOf, macroblocksOf, systemOf}
-use Rattle.rules_picture.specs.Picture.{slot, carriedIn, carrierOf}
+use Rattle.rules_picture.specs.Picture.{slot, carriedIn, carrierOf, carriedBy}
 use Rattle.paper.specs.Paper.{sequences, macroblocks, carried}
 
 -- the slot V(5g+m) of sequence q of DIF channel h carries macroblock b
@@ -27,6 +27,8 @@ pub record SlotsInNumbers : Type 0 where
   -- what the slot V(5g+m) carries, and that every macroblock of the system has its slot
   pub slots : (k : ℕ) (y : System) → systemOf k ≡ Known y → (h q g m : ℕ) → h < 4 → q < sequencesOf y → g < 27 → m < 5
       → carriedIn y (slot h q (5 * g + m)) ≡ carried k h q g m
+  pub slot-is : (h q v : ℕ) → slot h q v ≡ record { channel = h; sequence = q; video = record { 0 = v } }
+  pub carries-back : (y : System) (b : ℕ) → b < macroblocksOf y → carriedBy (carriedIn y) (carrierOf y b) ≡ Macroblock b
   pub all-carried : (k b : ℕ) → b < macroblocks k → SlotOf k b
   -- and back: a macroblock lies in the one slot that carries it; past the system's macroblocks there is none
   pub lies : (y : System) (s : Slot) (b : ℕ) → carriedIn y s ≡ Macroblock b → (b < macroblocksOf y) × (carrierOf y b ≡ In s)

@@ -6,7 +6,7 @@ use Rattle.paper.specs.declared.Part.{Part}
 use Rattle.rules_reads.specs.Macroblock.{MacroblockLies, MacroblockNumbered, MacroblockRead}
 use Rattle.promises.specs.Demand2.{MacroblockOut, Strict, ReadOut}
 use Rattle.rules_reads.specs.Strict.{StrictlyRead}
-use Rattle.rules_reads.proofs.ReadingOut.{macroblock-out, read-out}
+use Rattle.rules_reads.proofs.ReadingOut.{macroblock-out, read-out, strict-five, five-strict}
 use Rattle.promises.specs.Demand1.{CheckAnswers, AudioAnswers, MacroblockAnswers, MacroblockAtAnswers, TimeAnswers}
 use Rattle.rules_reads.specs.Check.{Checked}
 use Rattle.rules_reads.specs.Audio.{AudioRead}
@@ -37,3 +37,14 @@ macroblocks-out = macroblock-out
 
 pub reads-out : {k : ℕ} {f : List ℕ} {c : ℕ} {samples : List ℤ} {b : ℕ} {o : Strict} → StrictlyRead k f c samples b o → ReadOut k f c samples b o
 reads-out = read-out
+
+-- the reads of one frame together are the five contracts, and no more
+pub strictly : {k : ℕ} {f : List ℕ} {c : ℕ} {samples : List ℤ} {b : ℕ} {o : Strict} → StrictlyRead k f c samples b o
+    → Checked k f (o .check) × AudioRead k f c samples (o .audio) (o .samples) × MacroblockNumbered k f b (o .number) × MacroblockRead k f b (o .part)
+    × TimeRead k f (o .time)
+strictly = strict-five
+
+pub strictly-all : {k : ℕ} {f : List ℕ} {c : ℕ} {samples : List ℤ} {b : ℕ} {o : Strict} → Checked k f (o .check)
+    → AudioRead k f c samples (o .audio) (o .samples) → MacroblockNumbered k f b (o .number) → MacroblockRead k f b (o .part) → TimeRead k f (o .time)
+    → StrictlyRead k f c samples b o
+strictly-all = five-strict

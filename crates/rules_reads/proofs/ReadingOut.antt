@@ -24,6 +24,7 @@ use Rattle.rules_picture.specs.Picture.{slot, carriedIn}
 use Rattle.rules_format.specs.Reading.{readSample}
 use Rattle.rules_reads.specs.Audio.{countFor, audioNumber, AudioRead}
 use Rattle.rules_reads.specs.Macroblock.{macroblockNumber, slotBytes, macroblockAt, slotStart, carrierStart, MacroblockRead, MacroblockLies}
+use Rattle.rules_reads.specs.Macroblock.{MacroblockNumbered}
 use Rattle.rules_reads.specs.Time.{withBit6, settled, timeFirst, groupFirst, timeNumber, TimeRead}
 use Rattle.rules_packs.specs.Packs.{fourBytes}
 use Rattle.paper.specs.Paper.{sequences, start, byteAt, bytesAt, soundWord, sampleBy, slotPlace, carried}
@@ -41,6 +42,7 @@ use Rattle.rules_format.proofs.Paper.{columns, by-system, byte-in, bytes-at, re
 use Rattle.rules_format.proofs.Numbers.{sound-heard}
 use Rattle.rules_picture.proofs.Slots.{carried-is}
 use Rattle.rules_reads.proofs.GroundsAudio.{count-first}
+use Rattle.rules_reads.specs.Check.{Checked}
 
 -- ---- read_audio
 
@@ -169,3 +171,14 @@ read-out {k} {f} {c} {samples} {b} {o} read =
       time = λ z. answer-out (read .time) (time z) .0;
       group = λ z. answer-out (read .time) (time z) .1;
     }
+
+-- ---- StrictlyRead: the five contracts, and no more
+pub strict-five : {k : ℕ} {f : List ℕ} {c : ℕ} {samples : List ℤ} {b : ℕ} {o : Strict} → StrictlyRead k f c samples b o
+    → Checked k f (o .check) × AudioRead k f c samples (o .audio) (o .samples) × MacroblockNumbered k f b (o .number) × MacroblockRead k f b (o .part)
+    × TimeRead k f (o .time)
+strict-five s = (s .check, s .audio, s .number, s .part, s .time)
+
+pub five-strict : {k : ℕ} {f : List ℕ} {c : ℕ} {samples : List ℤ} {b : ℕ} {o : Strict} → Checked k f (o .check)
+    → AudioRead k f c samples (o .audio) (o .samples) → MacroblockNumbered k f b (o .number) → MacroblockRead k f b (o .part) → TimeRead k f (o .time)
+    → StrictlyRead k f c samples b o
+five-strict a s n p t = record { check = a; audio = s; number = n; part = p; time = t }

@@ -8,6 +8,11 @@ use Rattle.paper.specs.declared.IdAnswer.{IdAnswer}
 use Rattle.paper.specs.declared.IdValues.{IdValues}
 use Rattle.paper.specs.declared.Part.{Part}
 use Rattle.paper.specs.declared.Survey.{Survey}
+use Rattle.rules_surveys.specs.FaultLists.{frameFaults, unnamed, failing}
+use Rattle.rules_surveys.proofs.FaultLists.{faults-stream, faults-total}
+use Rattle.rules_format.specs.Stream.{named, blocksIn}
+use Rattle.paper.specs.declared.System.{System}
+use lib.ListN.{length}
 use Rattle.rules_surveys.specs.ReadId.{IdRead, IdSaid}
 use Rattle.rules_surveys.specs.Survey.{FrameSurveyed, SequenceSurveyed}
 use Rattle.rules_surveys.specs.View.{ViewNumbered, Viewed, ViewLies}
@@ -70,3 +75,11 @@ salvages-listed = salvage-listed
 pub salvages-out : (k : ℕ) {frame : List ℕ} {samples samples′ : List ℤ} {list list′ : List ℕ} {r : Survey} → Salvaged k frame samples list r samples′ list′
     → r .number ≡ 0 → SalvageOut k frame samples′
 salvages-out = salvage-out
+
+-- ---- the faults of a frame by the number of a block in the stream
+
+pub in-stream : (y : System) (frame : List ℕ) → frameFaults y frame ≡ unnamed y frame (blocksIn y)
+in-stream = faults-stream
+
+pub in-total : (y : System) (frame : List ℕ) → length (frameFaults y frame) ≡ failing (named y frame) (blocksIn y)
+in-total = faults-total
