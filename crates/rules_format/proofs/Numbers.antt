@@ -9,7 +9,6 @@ use lib.Dec.{eqb, leb}
 use lib.IntN.{pos, negsuc}
 use lib.ListN.{getD, take, drop}
 use lib.Seq.{getD-take, getD-drop}
-use Rattle.base.specs.Calls.{firstOf}
 use Rattle.base.specs.Pick.{pick}
 use Rattle.base.specs.Run.{run, tab}
 use Rattle.base.proofs.Cases.{by-bool}
@@ -26,7 +25,7 @@ use Rattle.rules_format.specs.Stream.{named}
 use Rattle.rules_format.specs.Reading.{soundBlock, soundNamed, readSample}
 use Rattle.paper.specs.Paper
 use Rattle.paper.specs.Paper.{soundStart, soundWord, sampleBy, figure3, channelBits}
-use Rattle.rules_format.specs.InNumbers.{InNumbers}
+use Rattle.rules_format.specs.InNumbers.{InNumbers, SystemsInNumbers, IdsInNumbers, BlocksInNumbers, SoundInNumbers}
 use Rattle.rules_format.proofs.Systems.{system-number, system-above, half-cases, half-twice, positions-half, sequences-some}
 use Rattle.rules_format.proofs.Places.{place-for-entry, place-for-none, place-of-entry, entry-of-place, number-below}
 use Rattle.rules_format.proofs.Ids.{channel-pairs, read-id-0, read-id-11, read-id-4}
@@ -142,11 +141,10 @@ ids-are h q p hh hq hp =
     id-is (entryAt (place p) .section) h q (entryAt (place p) .number .0) hh hq (omega (arith, number-below p hp))
     ∙ rw (figure-section p, figure-number p) refl
 
--- ---- all
+-- ---- all, by subjects
 
-pub in-numbers : InNumbers
-unfolding sectionOf pick firstOf run namedBy sequenceAt blockIn
-in-numbers = record {
+systems-are : SystemsInNumbers
+systems-are = record {
   systems = (
     record { system = system-number I60; numbers = (refl, refl, refl, refl, refl, refl) },
     record { system = system-number I50; numbers = (refl, refl, refl, refl, refl, refl) },
@@ -155,57 +153,75 @@ in-numbers = record {
   );
   counts = λ y k. (count-60 y k, count-50 y k);
   no-system = system-above;
+  system-numbers = (refl, refl, refl, refl);
+  in-system = λ y test rows. (refl, refl, refl, refl, refl, refl);
+  in-none = λ test rows. (refl, refl, refl);
+}
+
+id-answers-are : IdsInNumbers
+unfolding sectionOf pick namedBy
+id-answers-are = record {
   sections = (refl, refl, refl, refl, refl);
+  codes = (refl, refl, refl, refl, refl);
   channels = channel-pairs;
+  bits = λ id. (refl, refl, refl, refl, refl);
   ids = id-is;
-  names = λ y g j e. names-place _ _ _ _ e;
-  names-not = λ y g j e n. names-none _ _ _ _ e n;
-  sound = λ y g c t. (sound-named y g c t, sound-block y g c t, sound-byte y g c t);
-  range = range-numbers;
-  lost = (sample-lost, lost-word .0);
-  levels = sample-level;
-  no-sample = sample-none;
-  places = places-are;
-  places-back = λ p h. (place-of-entry p h, place-for-entry p h);
-  places-only = entry-of-place;
-  no-place = place-for-none;
-  faults = fault-is;
-  hears = heard-is;
-  words = λ z e. (word-is z e, back-is z e);
+  ids-at = ids-are;
   read = λ id three l. read-id-0 id three l ∙ rw (channel-by (getD id 1 0)) refl;
   reserved = read-id-11;
   wrong-length = read-id-4;
   values = λ b. (refl, refl, refl);
-  blocks = block-bytes;
-  blocks-in = λ y f h q p hp. block-in-sequence y f h q p hp ∙ block-bytes y f h q p;
-  parts = λ start size. part-taken 0 start size refl;
-  no-part = part-refused;
-  bytes = λ w. refl;
-  heard = sound-heard;
-  salvaged = salvaged-named;
-  salvaged-lost = salvaged-lost;
-  in-system = λ y test rows. (refl, refl, refl, refl, refl, refl);
-  in-none = λ test rows. (refl, refl, refl);
-  system-numbers = (refl, refl, refl, refl);
-  codes = (refl, refl, refl, refl, refl);
+}
+
+blocks-are : BlocksInNumbers
+unfolding run sequenceAt blockIn
+blocks-are = record {
+  places = places-are;
   places-in = λ k. (refl, refl, refl, refl, refl);
-  bits = λ id. (refl, refl, refl, refl, refl);
-  ids-at = ids-are;
+  places-back = λ p h. (place-of-entry p h, place-for-entry p h);
+  places-only = entry-of-place;
+  no-place = place-for-none;
   starts = λ y h q p. refl;
+  blocks = block-bytes;
   sequence-bytes = λ y f h q. refl;
   block-bytes = λ f p. refl;
-  part-bytes = λ f r. refl;
+  blocks-in = λ y f h q p hp. block-in-sequence y f h q p hp ∙ block-bytes y f h q p;
+  blocks-count = λ y. omega arith;
   holds-says = λ y k h q p i b. (b .channel, b .sequence, b .place, b .offset, b .is);
   holds-cover = Blocks.holds-some;
   holds-one = λ y k h q p i h′ q′ p′ i′ a b. Blocks.holds-one a b;
   holds-within = λ y k h q p i b. Blocks.holds-within b;
+  parts = λ start size. part-taken 0 start size refl;
+  no-part = part-refused;
+  part-bytes = λ f r. refl;
+  names = λ y g j e. names-place _ _ _ _ e;
+  names-not = λ y g j e n. names-none _ _ _ _ e n;
   names-in = λ block h q p l. ap (λ (x : ℕ). eqb x 0) (fault-is block h q p l);
-  blocks-count = λ y. omega arith;
+  faults = fault-is;
+}
+
+sound-is : SoundInNumbers
+unfolding pick
+sound-is = record {
+  sound = λ y g c t. (sound-named y g c t, sound-block y g c t, sound-byte y g c t);
+  sound-parts = λ s c t. (refl, refl, refl, refl, refl);
+  sound-first = λ s r a w. refl;
+  sound-back = λ s half t. sample-back s half t;
+  audio-back = λ s half c r hc hr. (audio-sequence s c r half hr hc, rank-sequence s c r half hr);
+  range = range-numbers;
   all-in-range = λ xs e i l. all-in xs i e l;
   all-passes = all-pass;
+  lost = (sample-lost, lost-word .0);
   sample-numbers = λ z. (refl, refl);
-  sound-parts = λ s c t. (refl, refl, refl, refl, refl);
-  sound-back = λ s half t. sample-back s half t;
-  sound-first = λ s r a w. refl;
-  audio-back = λ s half c r hc hr. (audio-sequence s c r half hr hc, rank-sequence s c r half hr);
+  levels = sample-level;
+  no-sample = sample-none;
+  hears = heard-is;
+  words = λ z e. (word-is z e, back-is z e);
+  bytes = λ w. refl;
+  heard = sound-heard;
+  salvaged = salvaged-named;
+  salvaged-lost = salvaged-lost;
 }
+
+pub in-numbers : InNumbers
+in-numbers = record { of-systems = systems-are; of-ids = id-answers-are; of-blocks = blocks-are; of-sound = sound-is }
