@@ -162,8 +162,7 @@ pub fn line_at(s: &[u8], at: usize) -> Line {
 
 // Where the line behind the one at this byte starts.
 pub fn next(s: &[u8], at: usize) -> usize
-    requires { ⌜ at < length (now s) ⌝ }
-    ensures { λ r. ⌜ at < r ⌝ }
+    ensures { λ r. ⌜ (at < length (now (s .entry)) → at < r) ⌝ }
 {
     let mut i = at;
     while i < s.len() {

@@ -2,6 +2,7 @@
 use mathlib.Core.Path.{_≡_}
 use Prim.Native.Nat.{_-_}
 use lib.ListN.{length}
+use Rattle.try_kit.proofs.Going.{further}
 use borrow.Author.Needs.{needs}
 use Rattle.try_reads.proofs.steps.Statement.{statement}
 use Rattle.try_reads.proofs.steps.Tie as tie
@@ -28,7 +29,7 @@ next-requires : tie.Need-next-requires Inv-loop μ-loop
 next-requires c κs = search needs
 
 loop-less : tie.Need-loop-less Inv-loop μ-loop
-loop-less c = search needs
+loop-less c = search (further, needs)
 
 loop-again : tie.Need-loop-again Inv-loop μ-loop
 loop-again c = search needs
