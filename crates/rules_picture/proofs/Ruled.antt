@@ -202,7 +202,7 @@ tenPlaceOf z = z / 5 % 27
 
 ten-carries : (h q v : ℕ) → q < 10 → v < 135 → tenCarries h q v ≡ Macroblock (numberBy 10 tenOrderOf tenPlaceOf h (turnOf q v) (unitOf v))
 unfolding tenCarries
-ten-carries h q v lq lv = rw (← i-is) (pick-true _ _ (lt-ltb q 10 lq))
+ten-carries h q v lq lv = rw (← i-is) (pick-true _ _ (lt-ltb q _ (omega (arith, lq))))
   where
     i-is : (4 * h + q / 5 + 2 * turnOf q v) % 10 ≡ (4 * h + tenOrderOf (turnOf q v)) % 10
     i-is = rw (turn-sequence q v lv) (omega arith)
