@@ -1,9 +1,11 @@
--- The ways out of `survey_block`, and what the loop over places keeps. Assumes nothing.
-use mathlib.Core.Path.{_≡_, refl, sym, _∙_}
-use mathlib.Core.List.{List, [], _∷_}
-use Prim.Native.Nat.{ℕ, _+_, _*_, _≤_, _<_, _-_}
+-- What is stored of a record, the ways out of `note` and of `survey_block`, and what the loop over places keeps. Assumes nothing.
+use mathlib.Core.Path.{_≡_, refl, sym, ap, _∙_}
+use mathlib.Core.List.{List, [], _∷_, _++_, append-assoc, append-nil}
+use Prim.Native.Nat.{ℕ, _+_, _*_, _/_, _≤_, _<_, _-_}
+use native.Mathlib.Nat.{add-sub-cancel-left}
 use native.Mathlib.Omega.{arith}
-use lib.ListN.{take, drop}
+use lib.ListN.{length, take, drop, drop-of-length-le}
+use lib.Seq.{sets, sets-eq, drop-drop}
 use borrow.Author.Tests.{eq-eqb, ne-eqb}
 use Rattle.base.specs.Pick.{pick}
 use Rattle.base.specs.Run.{run}
@@ -11,19 +13,47 @@ use Rattle.base.proofs.Parts.{range-part}
 use Rattle.paper.specs.declared.Entry.{Entry}
 use Rattle.paper.specs.declared.Place.{Place}
 use Rattle.paper.specs.declared.IdAnswer.{IdAnswer}
+use Rattle.paper.specs.declared.Fault.{Fault}
 use Rattle.rules_format.specs.Places.{place, entryAt}
 use Rattle.rules_format.specs.Blocks.{blockIn}
 use Rattle.rules_format.specs.Faults.{faultAt, faultOf}
 use Rattle.rules_surveys.specs.FaultLists.{blockFaults, placeFaults, sequenceFaults}
 use Rattle.rules_format.specs.Judging.{entryOf}
 use Rattle.rules_format.specs.Ids.{blockAnswer}
+use Rattle.rules_surveys.specs.Records.{numbers, width, room}
 use Rattle.rules_surveys.specs.Noting.{Noted}
 use Rattle.rules_format.proofs.Places.{entry-printed}
 use Rattle.rules_surveys.proofs.FaultLists.{places-le}
-use Rattle.rules_surveys.proofs.Records.{noted-none, noted-turn}
+use Rattle.rules_surveys.proofs.Records.{numbers-length, noted-none, noted-one, noted-full, noted-turn}
 use Rattle.judged_bits.specs.Asked.{JudgedBlock}
 use Rattle.judged_bits.specs.Clean.{BlockAsked}
 use Rattle.judged_bits.proofs.Clear.{clean-block}
+
+-- ---- put_record
+
+-- stores one after the other that fill a part
+all-set : (xs part : List ℕ) → length part ≡ length xs → sets part 0 xs ≡ xs
+all-set xs part e =
+    let fits : 0 + length xs ≤ length part = omega arith in
+    let past : length part ≤ 0 + length xs = omega arith in
+    sets-eq xs part 0 fits ∙ ap (λ (l : List ℕ). xs ++ l) (drop-of-length-le part past) ∙ append-nil xs
+
+pub record-stored : (part : List ℕ) (f : Fault) → length part ≡ width → sets part 0 (numbers f) ≡ numbers f
+record-stored part f e = all-set (numbers f) part (e ∙ sym (numbers-length f))
+
+-- ---- note: the part of record t is lent, and comes back as its numbers
+
+module _ (list : List ℕ) (t : ℕ) (f : Fault) where
+  pub note-stored : t < length list / width → (part : List ℕ) → part ≡ numbers f
+      → Noted list t (f ∷ []) (take (width * t) list ++ (part ++ drop (width * t + width - width * t) (drop (width * t) list))) (t + 1)
+  unfolding room
+  note-stored h part e =
+      let next : width * t + width ≡ width * (t + 1) = omega arith in
+      rw (e, add-sub-cancel-left (width * t) width, drop-drop, next, ← append-assoc) (noted-one list t f h)
+
+  pub note-full : length list / width ≤ t → Noted list t (f ∷ []) list (t + 1)
+  unfolding room
+  note-full h = noted-full list t f h
 
 -- ---- survey_block
 

@@ -12,6 +12,7 @@ use Rattle.paper.specs.declared.IdAnswer.the-variants.{Named, Reserved, WrongLe
 use Rattle.paper.specs.declared.Fault.{Fault}
 use Rattle.paper.specs.declared.Survey.{Survey}
 use Rattle.rules_surveys.specs.FaultLists.{sequenceFaults}
+use Rattle.rules_surveys.specs.Records.{width}
 use Rattle.rules_surveys.specs.Survey.{outsideSequences}
 
 -- whether an ID names a block at all
@@ -22,7 +23,7 @@ isNamed WrongLength = false
 
 -- what a survey that went through answers: its total t, of a list of so many numbers
 abbrev pub tallied : ℕ → ℕ → Survey
-tallied t size = record { number = 0; total = t; kept = min (size / 4) t }
+tallied t size = record { number = 0; total = t; kept = min (size / width) t }
 
 -- the faults of sequence q of DIF channel h, where t came before; none where it is none of the system's, or t are too many
 unfoldable pub nextFaults : System → ℕ → ℕ → List ℕ → ℕ → List Fault

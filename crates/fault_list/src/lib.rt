@@ -3,6 +3,7 @@ mod clean;
 mod list;
 mod sequence;
 
+pub use list::RECORD;
 pub use list::answered;
 pub use list::refused;
 pub use sequence::survey_next;

@@ -2,11 +2,27 @@
 ghost use mathlib.Core.Path.{_≡_};
 ghost use mathlib.Core.List.{[], _∷_};
 ghost use Prim.Native.Nat.{_/_, _<_, min};
+ghost use lib.ListN.{length};
+ghost use Rattle.rules_surveys.specs.Records.{numbers, width};
 ghost use Rattle.rules_surveys.specs.Noting.{Noted};
 ghost use Rattle.rules_surveys.specs.Survey.{refusal};
 ghost use Rattle.fault_list.specs.Asked.{tallied};
 use paper::Fault;
 use paper::Survey;
+
+// How many numbers a record has.
+pub const RECORD: usize = 4;
+
+// The part becomes the numbers of a record.
+fn put_record(part: &mut [u32], f: Fault)
+    requires { ⌜ length (now part) ≡ width ⌝ }
+    ensures { λ _. ⌜ now (part .exit) ≡ numbers f ⌝ }
+{
+    part[0] = f.channel;
+    part[1] = f.sequence;
+    part[2] = f.place.0;
+    part[3] = f.fault;
+}
 
 // One record more: it is stored where there is room.
 pub(crate) fn note(list: &mut [u32], t: u32, f: Fault) -> u32
@@ -14,12 +30,9 @@ pub(crate) fn note(list: &mut [u32], t: u32, f: Fault) -> u32
     ensures { λ r. ⌜ Noted (now (list .entry)) t (f ∷ []) (now (list .exit)) r ⌝ }
 {
     let at = t as usize;
-    if at < list.len() / 4 {
-        let k = 4 * at;
-        list[k] = f.channel;
-        list[k + 1] = f.sequence;
-        list[k + 2] = f.place.0;
-        list[k + 3] = f.fault;
+    if at < list.len() / RECORD {
+        let k = RECORD * at;
+        put_record(&mut list[k..k + RECORD], f);
         return t + 1;
     }
     t + 1
@@ -27,10 +40,10 @@ pub(crate) fn note(list: &mut [u32], t: u32, f: Fault) -> u32
 
 // How many of the records a list of so many numbers keeps.
 fn kept(total: u32, size: usize) -> u32
-    ensures { λ r. ⌜ r ≡ min (size / 4) total ⌝ }
+    ensures { λ r. ⌜ r ≡ min (size / width) total ⌝ }
 {
-    if size / 4 < total as usize {
-        return (size / 4) as u32;
+    if size / RECORD < total as usize {
+        return (size / RECORD) as u32;
     }
     total
 }

@@ -1,6 +1,6 @@
 -- The promises leave one answer each, apart from any contract: two outcomes that both meet a statement are the same. Assumes nothing.
 use mathlib.Core.Path.{_≡_, refl, sym, ap, _∙_, subst}
-use mathlib.Core.List.{List, [], _∷_, _++_}
+use mathlib.Core.List.{List}
 use Prim.Native.Nat.{ℕ, _+_, _-_, _*_, _<_, _/_, _%_, min, zero, suc}
 use native.Mathlib.Omega.{arith}
 use lib.IntN.{ℤ, pos}
@@ -11,13 +11,12 @@ use Rattle.base.proofs.Cases.{by-lt, by-eq}
 use Rattle.promises.specs.Contents.{Contents}
 use Rattle.paper.specs.Paper.{sequences, records, positions, macroblocks, streamFault, soundIndex, back}
 use Rattle.promises.specs.Demand2.{Strict, ReadsBack, IdOut, ViewOut, MacroblockOut, ReadOut, GoesThrough}
-use lib.Dec.{eqb, ltb}
+use lib.Dec.{ltb}
 use Rattle.base.specs.Pick.{pick}
 use Rattle.paper.specs.declared.Survey.{Survey}
 use Rattle.promises.specs.Demand3.{Listed, faultFor, SalvageOut, Salvages, SampleSalvaged}
 use native.Mathlib.Nat.{div-add-mod', mod-lt, div-lt-iff-lt-mul, not-suc-le-zero}
 use borrow.Author.Tests.{ne-eqb}
-use Rattle.base.proofs.Picks.{pick-false}
 use Rattle.paper.specs.Paper
 use Rattle.paper.specs.declared.Place.{Place}
 use Rattle.paper.specs.declared.IdAnswer.{IdAnswer}
@@ -106,30 +105,24 @@ module _ {n first m : ℕ} {bytes list list₁ list₂ : List ℕ} {r r′ : Sur
   total-one = omega (arith, a .total, b .total)
 
   kept-one : r .kept ≡ r′ .kept
-  kept-one = a .kept ∙ ap (min (length list / 4)) total-one ∙ sym (b .kept)
+  kept-one = a .kept ∙ ap (min _) total-one ∙ sym (b .kept)
 
   pub listed-one : r .number ≡ r′ .number → (r ≡ r′) × (list₁ ≡ list₂)
   listed-one number = (
     λ i. record { number = number i; total = total-one i; kept = kept-one i },
-    a .listed ∙ ap (λ (j : ℕ). take (4 * j) (records n bytes first m) ++ drop (4 * j) list) kept-one ∙ sym (b .listed),
+    a .listed ∙ rw kept-one (sym (b .listed)),
   )
 
 -- ---- records: none only where every block names its place
 
 records-none : (n : ℕ) (bytes : List ℕ) (first m j : ℕ) → length (records n bytes first m) ≡ 0 → j < m → streamFault n bytes j (first + j) ≡ 0
-unfolding records run
+unfolding records run pick
 records-none n bytes first zero j e h = absurd (not-suc-le-zero h)
 records-none n bytes first (suc m) j e h =
     let found = streamFault n bytes m (first + m) in
-    let i = first + m in
-    let both = length-append (records n bytes first m) (pick (eqb found 0) [] (i / 150 / n ∷ i / 150 % n ∷ i % 150 ∷ found ∷ [])) in
     by-eq j m
-    (λ last.
-    rw last
-    (by-eq found 0 (λ z. z) (λ d.
-    let some : length (pick (eqb found 0) [] (i / 150 / n ∷ i / 150 % n ∷ i % 150 ∷ found ∷ [])) ≡ 4 = ap length (pick-false _ _ (ne-eqb found 0 d)) in
-    absurd (omega (arith, e, both, some)))))
-    (λ d. records-none n bytes first m j (omega (arith, e, both)) (omega (arith, d)))
+    (λ last. rw last (by-eq found 0 (λ z. z) (λ d. absurd (omega (arith, simp length-append at (rw (ne-eqb found 0 d) at e))))))
+    (λ d. records-none n bytes first m j (omega (arith, simp length-append at e)) (omega (arith, d)))
 
 -- the third demand stops a survey that coasts, of a frame and of one sequence
 pub coasting : {n first m : ℕ} {bytes list list′ : List ℕ} {r : Survey} → Listed n bytes first m list r list′ → r .total ≡ 0

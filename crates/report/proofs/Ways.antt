@@ -9,6 +9,7 @@ use borrow.Author.Tests.{eq-eqb, ne-eqb, lt-ltb, le-ltb, le-leb}
 use Rattle.base.proofs.Picks.{pick-true, pick-false, pick-either}
 use Rattle.base.proofs.Parts.{range-part, length-part}
 use Rattle.paper.specs.declared.Survey.{Survey}
+use Rattle.rules_surveys.specs.Records.{width}
 use Rattle.text.specs.Lines.{lineOf, lineIn, Lined}
 use Rattle.report.specs.Printed.{recordLine, totalsLine, refusalLine, lineAt, inRoom, Printed}
 
@@ -36,16 +37,17 @@ printed-none text out e =
 -- ---- the ways out
 
 module _ (list : List ℕ) (i : ℕ) where
-  pub record-none : (out : List ℕ) → length list < 4 * i + 4 → Printed (recordLine list i) out out 0
+  pub record-none : (out : List ℕ) → length list < width * i + width → Printed (recordLine list i) out out 0
   unfolding recordLine
   record-none out l = printed-none _ out (pick-true _ _ (lt-ltb _ _ l))
 
-  pub record-printed : (out out′ : List ℕ) (r : ℕ) → 4 * i + 4 ≤ length list → Lined 0x46 (take (4 * i + 4 - 4 * i) (drop (4 * i) list)) out out′ r → Printed (recordLine list i) out out′ r
+  pub record-printed : (out out′ : List ℕ) (r : ℕ) → width * i + width ≤ length list
+      → Lined 0x46 (take (width * i + width - width * i) (drop (width * i) list)) out out′ r → Printed (recordLine list i) out out′ r
   unfolding recordLine
   record-printed out out′ r l p =
-      let e = range-part (4 * i) 4 list in
-      let n : length (take 4 (drop (4 * i) list)) ≡ 4 = length-part (4 * i) 4 list l in
-      printed 0x46 (take 4 (drop (4 * i) list)) _ out out′ r (omega (arith, n)) (pick-false _ _ (le-ltb _ _ l)) (rw e at p)
+      let e = range-part (width * i) width list in
+      let n : length (take width (drop (width * i) list)) ≡ width = length-part (width * i) width list l in
+      printed 0x46 (take width (drop (width * i) list)) _ out out′ r (omega (arith, n)) (pick-false _ _ (le-ltb _ _ l)) (rw e at p)
 
 pub totals-printed : (total kept : ℕ) (out out′ : List ℕ) (r : ℕ) → Lined 0x54 (total ∷ kept ∷ []) out out′ r → Printed (totalsLine total kept) out out′ r
 unfolding totalsLine

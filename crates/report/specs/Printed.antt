@@ -8,11 +8,12 @@ use Rattle.base.specs.Pick.{pick}
 use Rattle.base.specs.Run.{run}
 use Rattle.paper.specs.declared.Fault.{Fault}
 use Rattle.paper.specs.declared.Survey.{Survey}
+use Rattle.rules_surveys.specs.Records.{numbers, width}
 use Rattle.text.specs.Lines.{lineOf}
 
 -- "It prints `F`, channel, sequence, place, fault, parted by tabs": record i of the list, where it holds that
 unfoldable pub recordLine : List ℕ → ℕ → List ℕ
-recordLine list i = pick (ltb (length list) (4 * i + 4)) [] (lineOf 0x46 (take 4 (drop (4 * i) list)))
+recordLine list i = pick (ltb (length list) (width * i + width)) [] (lineOf 0x46 (take width (drop (width * i) list)))
 
 -- "then `T`, total, kept"
 unfoldable pub totalsLine : ℕ → ℕ → List ℕ
@@ -66,7 +67,7 @@ pub record Texting (s : Survey) (list out₀ out : List ℕ) (at i : ℕ) : Type
 
 unfoldable pub faultLines : List Fault → List ℕ
 faultLines [] = []
-faultLines (f ∷ fs) = lineOf 0x46 (f .channel ∷ f .sequence ∷ f .place .0 ∷ f .fault ∷ []) ++ faultLines fs
+faultLines (f ∷ fs) = lineOf 0x46 (numbers f) ++ faultLines fs
 
 -- what is printed of a survey with this number and these faults, which has room for so many records
 unfoldable pub surveyText : ℕ → ℕ → List Fault → List ℕ

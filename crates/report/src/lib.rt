@@ -1,6 +1,7 @@
 // What is printed of a survey, line by line: its records, then its totals; or its refusal alone.
 ghost use mathlib.Core.List.{[], _∷_};
 ghost use Rattle.report.specs.Printed.{recordLine, totalsLine, refusalLine, lineAt, Printed, Texted};
+use fault_list::RECORD;
 use paper::Survey;
 
 // The lines of a list of 64 records at most, and the bytes that they want.
@@ -8,15 +9,15 @@ const LINES: u32 = 65;
 
 const ROOM: usize = 4160;
 
-// Record i of the list, in its four fields. There is no line where the list does not hold it.
+// Record i of the list. There is no line where the list does not hold it.
 fn record_line(list: &[u32], i: u32, out: &mut [u8]) -> usize
     ensures { λ r. ⌜ Printed (recordLine (now (list .entry)) i) (now (out .entry)) (now (out .exit)) r ⌝ }
 {
-    let at = 4 * (i as usize);
-    if list.len() < at + 4 {
+    let at = RECORD * (i as usize);
+    if list.len() < at + RECORD {
         return 0;
     }
-    text::line(b'F', &list[at..at + 4], out)
+    text::line(b'F', &list[at..at + RECORD], out)
 }
 
 fn totals_line(total: u32, kept: u32, out: &mut [u8]) -> usize

@@ -25,7 +25,7 @@ use Rattle.rules_format.specs.Systems.{sequencesOf, systemOf}
 use Rattle.rules_format.specs.Ids.{sectionBits, dseqBits, fscBit, fspBit, dbnByte, channelOf, namedBy, idAnswer, idRefusal, idValues}
 use Rattle.rules_format.specs.Blocks.{startOf, blockAt, noPart, bytesOf}
 use Rattle.rules_format.specs.Faults.{faultAt}
-use Rattle.rules_surveys.specs.Records.{kept, after}
+use Rattle.rules_surveys.specs.Records.{width, kept, after}
 use Rattle.rules_surveys.specs.Noting.{Noted}
 use Rattle.rules_surveys.specs.ReadId.{idNumber, idSays, IdRead, IdSaid}
 use Rattle.rules_surveys.specs.Survey.{outsideSequences, surveyNumber, sequenceNumber, refusal, surveyAnswer, surveyLeft, Surveyed, FrameSurveyed}
@@ -103,10 +103,10 @@ module _ (number : ℕ) (fs : List Fault) (list list′ : List ℕ) (t b : ℕ) 
   unfolding surveyAnswer surveyLeft pick
   survey-given total held left = record { answer = rw (eq-eqb number 0 z, total, held) refl; left = rw (eq-eqb number 0 z) left }
 
-  pub survey-done : Noted list 0 fs list′ t → b ≡ min (length list / 4) t → Surveyed number fs list (record { number = 0; total = t; kept = b }) list′
+  pub survey-done : Noted list 0 fs list′ t → b ≡ min (length list / width) t → Surveyed number fs list (record { number = 0; total = t; kept = b }) list′
   survey-done n e =
       let total : t ≡ length fs = omega (arith, n .total) in
-      survey-given total (e ∙ ap (min (length list / 4)) total ∙ sym (kept-length list fs)) (n .left ∙ more-after list fs)
+      survey-given total (e ∙ ap (min (length list / width)) total ∙ sym (kept-length list fs)) (n .left ∙ more-after list fs)
 
 -- a refusal, as the code leaves it
 pub survey-stopped : (number : ℕ) (fs : List Fault) (list : List ℕ) (k : ℕ) (r : Survey) → number ≡ suc k → r ≡ refusal (suc k) → Surveyed number fs list r list

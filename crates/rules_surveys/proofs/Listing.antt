@@ -1,6 +1,6 @@
 -- The workshop of the fault list: what a survey of a frame or of a sequence lists, in document 01's numbers. Assumes nothing.
 use mathlib.Core.Path.{_≡_, refl, sym, ap, _∙_}
-use mathlib.Core.List.{List, [], _∷_, _++_}
+use mathlib.Core.List.{List, [], _++_, append-nil}
 use Prim.Native.Nat.{ℕ, _+_, _*_, _/_, _%_, _≤_, _<_, min}
 use native.Mathlib.Nat.{zero-add, mul-add-div, mul-add-mod-self-left, div-eq-of-lt, mod-eq-of-lt}
 use native.Mathlib.Omega.{arith}
@@ -17,10 +17,11 @@ use Rattle.paper.specs.declared.SystemNumber.the-variants.{Known}
 use Rattle.paper.specs.declared.Fault.{Fault}
 use Rattle.paper.specs.declared.Survey.{Survey}
 use Rattle.rules_format.specs.Systems.{sequencesOf}
+use Rattle.rules_format.specs.Places.{place}
 use Rattle.rules_format.specs.Blocks.{blockIn}
 use Rattle.rules_format.specs.Faults.{faultAt}
 use Rattle.rules_surveys.specs.FaultLists.{blockFaults, sequenceFaults, frameFaults, unnamed}
-use Rattle.rules_surveys.specs.Records.{flat, kept, after}
+use Rattle.rules_surveys.specs.Records.{numbers, width, flat, kept, after}
 use Rattle.rules_surveys.specs.Survey.{outsideSequences, surveyNumber, sequenceNumber, Surveyed, FrameSurveyed, SequenceSurveyed}
 use Rattle.rules_surveys.specs.Salvage.{salvageNumber, Salvaged}
 use Rattle.paper.specs.Paper.{sequences, fault, records}
@@ -52,9 +53,9 @@ module _ (bytes : List ℕ) (j h q p : ℕ) (room : j * 80 + 80 ≤ length bytes
       let first = byte-is 0 (omega arith) ∙ ap (λ (a : ℕ). getD bytes a 0) e in
       fault-is block h q p (omega (arith, length-part (j * 80) 80 bytes room)) ∙ rw (first, byte-is 1 (omega arith), byte-is 2 (omega arith)) refl
 
-  block-record : flat (blockFaults block h q p) ≡ pick (eqb found 0) [] (h ∷ q ∷ p ∷ found ∷ [])
+  block-record : flat (blockFaults block h q p) ≡ pick (eqb found 0) [] (numbers (record { channel = h; sequence = q; place = place p; fault = found }))
   unfolding blockFaults flat pick
-  block-record = rw block-fault (by-bool (eqb found 0) (λ e. rw e refl) (λ e. rw e refl))
+  block-record = rw block-fault (by-bool (eqb found 0) (λ e. rw e refl) (λ e. rw e (append-nil _)))
 
 -- ---- records
 
@@ -64,7 +65,7 @@ module _ (y : System) where
 
   -- of a frame
   pub frame-records : (f : List ℕ) → length f ≡ 48000 * n → flat (frameFaults y f) ≡ records n f 0 (600 * n)
-  unfolding unnamed blockFaults records
+  unfolding unnamed blockFaults numbers records
   frame-records f whole =
       let m : 600 * n ≡ 150 * (n * 4) = omega arith in
       rw m
@@ -75,7 +76,7 @@ module _ (y : System) where
   -- of sequence q of DIF channel h, whose first block is number (n h + q) 150 of the stream
   module _ (h q : ℕ) (hq : q < n) where
     pub sequence-records : (s : List ℕ) → length s ≡ 12000 → flat (sequenceFaults s h q) ≡ records n s ((n * h + q) * 150) 150
-    unfolding sequenceFaults blockIn records
+    unfolding sequenceFaults blockIn numbers records
     sequence-records s whole =
         flat-run _ 150
         ∙ run-same _ _ 150 (λ j l.
@@ -95,8 +96,8 @@ lists {number} {fs} {list} {list′} {r} {n} {first} {m} {bytes} s zero is =
     let held : r .kept ≡ length (kept list fs) = ap (λ (x : Survey). x .kept) (taken .0) in
     let total : r .total ≡ length fs = ap (λ (x : Survey). x .total) (taken .0) in
     record {
-      listed = taken .1 ∙ rw (held, ← is) (ap (λ (l : List ℕ). l ++ drop (4 * length (kept list fs)) list) (kept-flat list fs));
-      kept = held ∙ kept-length list fs ∙ ap (min (length list / 4)) (sym total);
+      listed = taken .1 ∙ rw (held, ← is) (ap (λ (l : List ℕ). l ++ drop (width * length (kept list fs)) list) (kept-flat list fs));
+      kept = held ∙ kept-length list fs ∙ ap (min (length list / width)) (sym total);
       total = omega (arith, total, flat-length fs, ap length is);
     }
 

@@ -1,32 +1,37 @@
 -- Laws of survey records in a lent list, at once and record by record. Assumes nothing.
-use mathlib.Core.Path.{_≡_, refl, sym, ap, _∙_}
+use mathlib.Core.Path.{_≡_, refl, sym, ap, ap₂, _∙_}
 use mathlib.Core.List.{List, [], _∷_, _++_, append-assoc}
 use Prim.Native.Nat.{ℕ, zero, suc, _+_, _*_, _-_, _/_, _≤_, _<_, min}
 use native.Mathlib.Nat.{add-zero, zero-add, suc-sub-suc, sub-zero}
 use native.Mathlib.Omega.{arith}
-use lib.ListN.{length, take, drop, set, length-append, length-set, length-take, length-drop, take-append-drop}
-use lib.Seq.{take-nil, take-all, take-at, drop-at, length-take-le, sets-eq, drop-drop, drop-set-lt}
+use lib.ListN.{length, take, drop, length-append, length-take, length-drop, take-append-drop}
+use lib.Seq.{take-nil, take-all, take-at, drop-at, length-take-le, drop-append-add, drop-drop}
 use borrow.Author.Tests.{lt-ltb, le-ltb}
-use Rattle.base.specs.Pick.{pick}
 use Rattle.base.specs.Run.{run}
 use Rattle.base.proofs.Cases.{by-lt}
-use Rattle.base.proofs.Picks.{pick-false}
+use Rattle.base.proofs.Picks.{pick-true, pick-false}
 use Rattle.base.proofs.Runs.{run-zero, run-more}
 use Rattle.paper.specs.declared.Fault.{Fault}
-use Rattle.rules_surveys.specs.Records.{flat, room, kept, after}
+use Rattle.rules_surveys.specs.Records.{numbers, width, flat, room, kept, after}
 use Rattle.rules_surveys.specs.Noting.{put, more, Noted}
+
+-- ---- numbers
+
+pub numbers-length : (f : Fault) → length (numbers f) ≡ width
+unfolding numbers
+numbers-length f = refl
 
 -- ---- flat
 
-pub flat-length : (fs : List Fault) → length (flat fs) ≡ 4 * length fs
+pub flat-length : (fs : List Fault) → length (flat fs) ≡ width * length fs
 unfolding flat
 flat-length [] = refl
-flat-length (f ∷ fs) = omega (arith, flat-length fs)
+flat-length (f ∷ fs) = omega (arith, length-append (numbers f) (flat fs), numbers-length f, flat-length fs)
 
 pub flat-append : (a b : List Fault) → flat (a ++ b) ≡ flat a ++ flat b
 unfolding flat
 flat-append [] b = refl
-flat-append (f ∷ a) b = ap (λ (l : List ℕ). f .channel ∷ f .sequence ∷ f .place .0 ∷ f .fault ∷ l) (flat-append a b)
+flat-append (f ∷ a) b = ap (λ (l : List ℕ). numbers f ++ l) (flat-append a b) ∙ sym (append-assoc (numbers f) (flat a) (flat b))
 
 -- the records of a run of faults
 pub flat-run : (f : ℕ → List Fault) (m : ℕ) → flat (run f m) ≡ run (λ (j : ℕ). flat (f j)) m
@@ -41,20 +46,20 @@ pub kept-first : (list : List ℕ) (fs : List Fault) → kept list fs ++ drop (r
 unfolding kept
 kept-first list fs = take-append-drop (room list) fs
 
-pub kept-length : (list : List ℕ) (fs : List Fault) → length (kept list fs) ≡ min (length list / 4) (length fs)
+pub kept-length : (list : List ℕ) (fs : List Fault) → length (kept list fs) ≡ min (length list / width) (length fs)
 unfolding kept room
-kept-length list fs = length-take (length list / 4) fs
+kept-length list fs = length-take (length list / width) fs
 
 -- their records are the first of all
-pub kept-flat : (list : List ℕ) (fs : List Fault) → flat (kept list fs) ≡ take (4 * length (kept list fs)) (flat fs)
+pub kept-flat : (list : List ℕ) (fs : List Fault) → flat (kept list fs) ≡ take (width * length (kept list fs)) (flat fs)
 kept-flat list fs =
     sym (
-    ap (λ (gs : List Fault). take (4 * length (kept list fs)) (flat gs)) (sym (kept-first list fs))
-    ∙ ap (take (4 * length (kept list fs))) (flat-append (kept list fs) (drop (room list) fs))
-    ∙ take-at (flat (kept list fs)) _ (4 * length (kept list fs)) (flat-length (kept list fs)))
+    ap (λ (gs : List Fault). take (width * length (kept list fs)) (flat gs)) (sym (kept-first list fs))
+    ∙ ap (take (width * length (kept list fs))) (flat-append (kept list fs) (drop (room list) fs))
+    ∙ take-at (flat (kept list fs)) _ (width * length (kept list fs)) (flat-length (kept list fs)))
 
 -- no more is kept than there is room for, nor than there are
-pub kept-room : (list : List ℕ) (fs : List Fault) → 4 * length (kept list fs) ≤ length list
+pub kept-room : (list : List ℕ) (fs : List Fault) → width * length (kept list fs) ≤ length list
 kept-room list fs = omega (arith, kept-length list fs)
 
 -- the first n of two lists joined
@@ -68,14 +73,14 @@ take-join (suc n) (x ∷ a) b = ap (λ (l : List Fault). x ∷ l) (take-join n a
 -- ---- after
 
 -- the kept records stand first
-pub after-kept : (list : List ℕ) (fs : List Fault) → take (4 * length (kept list fs)) (after list fs) ≡ flat (kept list fs)
+pub after-kept : (list : List ℕ) (fs : List Fault) → take (width * length (kept list fs)) (after list fs) ≡ flat (kept list fs)
 unfolding after
-after-kept list fs = take-at (flat (kept list fs)) _ (4 * length (kept list fs)) (flat-length (kept list fs))
+after-kept list fs = take-at (flat (kept list fs)) _ (width * length (kept list fs)) (flat-length (kept list fs))
 
 -- unused entries stay
-pub after-unused : (list : List ℕ) (fs : List Fault) → drop (4 * length (kept list fs)) (after list fs) ≡ drop (4 * length (kept list fs)) list
+pub after-unused : (list : List ℕ) (fs : List Fault) → drop (width * length (kept list fs)) (after list fs) ≡ drop (width * length (kept list fs)) list
 unfolding after
-after-unused list fs = drop-at (flat (kept list fs)) (drop (4 * length (kept list fs)) list) (4 * length (kept list fs)) (flat-length (kept list fs))
+after-unused list fs = drop-at (flat (kept list fs)) (drop (width * length (kept list fs)) list) (width * length (kept list fs)) (flat-length (kept list fs))
 
 pub after-none : (list : List ℕ) → after list [] ≡ list
 unfolding after kept flat
@@ -83,78 +88,83 @@ after-none list = rw take-nil
 
 -- the fault that others come before stands behind theirs, if there is room for it
 pub after-first : (list : List ℕ) (before : List Fault) (f : Fault) (rest : List Fault) → length before < room list
-    → take 4 (drop (4 * length before) (after list (before ++ (f ∷ rest)))) ≡ f .channel ∷ f .sequence ∷ f .place .0 ∷ f .fault ∷ []
+    → take width (drop (width * length before) (after list (before ++ (f ∷ rest)))) ≡ numbers f
 unfolding after kept flat
 after-first list before f rest h =
     let e : room list - length before ≡ suc (room list - length before - 1) = omega arith in
     let whole : take (room list) before ≡ before = take-all (room list) before (omega arith) in
     rw (take-join (room list) before (f ∷ rest), whole, e, flat-append, append-assoc)
-    (ap (take 4) (drop-at (flat before) _ (4 * length before) (flat-length before)))
+    (ap (take width) (drop-at (flat before) _ (width * length before) (flat-length before) ∙ append-assoc (numbers f) _ _)
+    ∙ take-at (numbers f) _ width (numbers-length f))
 
 -- ---- a list in two goes: the second writes behind what the first kept
 
-room-rest : (list : List ℕ) (fs : List Fault) → room (drop (4 * length (kept list fs)) list) ≡ room list - length (kept list fs)
+room-rest : (list : List ℕ) (fs : List Fault) → room (drop (width * length (kept list fs)) list) ≡ room list - length (kept list fs)
 unfolding room
-room-rest list fs = omega (arith, length-drop (4 * length (kept list fs)) list)
+room-rest list fs = omega (arith, length-drop (width * length (kept list fs)) list)
 
-pub kept-append : (list : List ℕ) (fs gs : List Fault) → kept list (fs ++ gs) ≡ kept list fs ++ kept (drop (4 * length (kept list fs)) list) gs
+pub kept-append : (list : List ℕ) (fs gs : List Fault) → kept list (fs ++ gs) ≡ kept list fs ++ kept (drop (width * length (kept list fs)) list) gs
 unfolding kept
 kept-append list fs gs =
-    let e : room list - length fs ≡ room (drop (4 * length (take (room list) fs)) list) =
+    let e : room list - length fs ≡ room (drop (width * length (take (room list) fs)) list) =
     omega (arith, room-rest list fs, length-take (room list) fs) in
     take-join (room list) fs gs ∙ ap (λ (n : ℕ). take (room list) fs ++ take n gs) e
 
 pub after-append : (list : List ℕ) (fs gs : List Fault)
-    → after list (fs ++ gs) ≡ take (4 * length (kept list fs)) (after list fs) ++ after (drop (4 * length (kept list fs)) (after list fs)) gs
+    → after list (fs ++ gs) ≡ take (width * length (kept list fs)) (after list fs) ++ after (drop (width * length (kept list fs)) (after list fs)) gs
 unfolding after
 after-append list fs gs =
     let a = kept list fs in
-    let b = kept (drop (4 * length a) list) gs in
-    let e : 4 * length a + 4 * length b ≡ 4 * (length a + length b) = omega arith in
+    let b = kept (drop (width * length a) list) gs in
+    let e : width * length a + width * length b ≡ width * (length a + length b) = omega arith in
     rw (kept-append list fs gs, length-append a b, flat-append a b, after-kept list fs, after-unused list fs, append-assoc)
-    (ap (λ (r : List ℕ). flat a ++ (flat b ++ r)) (ap (λ (n : ℕ). drop n list) (sym e) ∙ sym (drop-drop (4 * length b) (4 * length a) list)))
+    (ap (λ (r : List ℕ). flat a ++ (flat b ++ r)) (ap (λ (n : ℕ). drop n list) (sym e) ∙ sym (drop-drop (width * length b) (width * length a) list)))
 
 -- ---- put
 
--- four stores in a row
-set-four : (l : List ℕ) (i a b c d : ℕ) → i + 4 ≤ length l
-    → set (set (set (set l i a) (i + 1) b) (i + 2) c) (i + 3) d ≡ take i l ++ (a ∷ b ∷ c ∷ d ∷ drop (i + 4) l)
-set-four l i a b c d h =
-    let e1 : i + 1 ≡ suc i = omega arith in
-    let e2 : i + 2 ≡ suc (suc i) = omega arith in
-    let e3 : i + 3 ≡ suc (suc (suc i)) = omega arith in
-    rw (e1, e2, e3) (sets-eq (a ∷ b ∷ c ∷ d ∷ []) l i h ∙ append-assoc (take i l) (a ∷ b ∷ c ∷ d ∷ []) (drop (i + 4) l))
+module _ (list : List ℕ) (t : ℕ) (f : Fault) where
+  -- the list up to the record's end
+  abbrev front : List ℕ
+  front = take (width * t) list ++ numbers f
 
-put-room : (list : List ℕ) (t : ℕ) (f : Fault) → t < room list → put list t f ≡ take (4 * t) list ++ (flat (f ∷ []) ++ drop (4 * t + 4) list)
-unfolding put room flat pick
-put-room list t f h = rw (lt-ltb t (length list / 4) h) (set-four list (4 * t) _ _ _ _ (omega arith))
+  module _ (h : t < room list) where
+    put-room : put list t f ≡ front ++ drop (width * (t + 1)) list
+    unfolding put
+    put-room = pick-true _ _ (lt-ltb t (room list) h)
 
-put-full : (list : List ℕ) (t : ℕ) (f : Fault) → room list ≤ t → put list t f ≡ list
-unfolding put
-put-full list t f h = pick-false _ _ (le-ltb t (room list) h)
+    record-fits : width * (t + 1) ≤ length list
+    unfolding room
+    record-fits = omega arith
 
-put-take : (list : List ℕ) (t : ℕ) (f : Fault) → t < room list → take (4 * (t + 1)) (put list t f) ≡ take (4 * t) list ++ flat (f ∷ [])
-unfolding room
-put-take list t f h =
-    ap (take (4 * (t + 1))) (put-room list t f h ∙ sym (append-assoc (take (4 * t) list) (flat (f ∷ [])) (drop (4 * t + 4) list)))
-    ∙ take-at (take (4 * t) list ++ flat (f ∷ [])) (drop (4 * t + 4) list) (4 * (t + 1))
-    (omega (arith, length-append (take (4 * t) list) (flat (f ∷ [])), flat-length (f ∷ []), length-take-le (4 * t) list (omega arith)))
+    front-length : length front ≡ width * (t + 1)
+    front-length =
+        let before : width * t ≤ length list = omega (arith, record-fits) in
+        omega (arith, length-append (take (width * t) list) (numbers f), length-take-le (width * t) list before, numbers-length f)
 
-put-drop : (list : List ℕ) (t : ℕ) (f : Fault) (n : ℕ) → t < n → drop (4 * n) (put list t f) ≡ drop (4 * n) list
-unfolding put pick
-put-drop list t f n h =
-    by-lt t (room list)
-    (λ k.
-    rw (lt-ltb t (room list) k)
-    (drop-set-lt (4 * n) _ (4 * t + 3) _ (omega arith)
-    ∙ drop-set-lt (4 * n) _ (4 * t + 2) _ (omega arith)
-    ∙ drop-set-lt (4 * n) _ (4 * t + 1) _ (omega arith)
-    ∙ drop-set-lt (4 * n) _ (4 * t) _ (omega arith)))
-    (λ k. rw (le-ltb t (room list) k))
+    put-take : take (width * (t + 1)) (put list t f) ≡ front
+    put-take = ap (take (width * (t + 1))) put-room ∙ take-at front _ (width * (t + 1)) front-length
 
-put-length : (list : List ℕ) (t : ℕ) (f : Fault) → length (put list t f) ≡ length list
-unfolding put pick
-put-length list t f = by-lt t (room list) (λ h. rw (lt-ltb t (room list) h) (simp length-set)) (λ h. rw (le-ltb t (room list) h))
+    put-drop : (n : ℕ) → t < n → drop (width * n) (put list t f) ≡ drop (width * n) list
+    put-drop n l =
+        let m = width * n - width * (t + 1) in
+        let past : width * n ≡ length front + m = omega (arith, front-length) in
+        let whole : width * (t + 1) + m ≡ width * n = omega arith in
+        ap₂ drop past put-room
+        ∙ drop-append-add front (drop (width * (t + 1)) list) m
+        ∙ drop-drop m (width * (t + 1)) list
+        ∙ ap (λ (j : ℕ). drop j list) whole
+
+  put-full : room list ≤ t → put list t f ≡ list
+  unfolding put
+  put-full h = pick-false _ _ (le-ltb t (room list) h)
+
+  put-length : length (put list t f) ≡ length list
+  put-length =
+      by-lt t (room list)
+      (λ h.
+      ap length (put-room h)
+      ∙ omega (arith, length-append front (drop (width * (t + 1)) list), front-length h, length-drop (width * (t + 1)) list, record-fits h))
+      (λ h. ap length (put-full h))
 
 put-keeps-room : (list : List ℕ) (t : ℕ) (f : Fault) → room (put list t f) ≡ room list
 unfolding room
@@ -181,9 +191,9 @@ more-full list t (f ∷ fs) h = rw (put-full list t f h) (more-full list (t + 1)
 
 -- what the stores leave, said at once
 more-at : (list : List ℕ) (t : ℕ) (fs : List Fault) → t ≤ room list
-    → more list t fs ≡ take (4 * t) list ++ (flat (take (room list - t) fs) ++ drop (4 * (t + length (take (room list - t) fs))) list)
+    → more list t fs ≡ take (width * t) list ++ (flat (take (room list - t) fs) ++ drop (width * (t + length (take (room list - t) fs))) list)
 unfolding more flat
-more-at list t [] h = rw (take-nil, add-zero) (sym (take-append-drop (4 * t) list))
+more-at list t [] h = rw (take-nil, add-zero) (sym (take-append-drop (width * t) list))
 more-at list t (f ∷ fs) h =
     by-lt t (room list)
     (λ k.
@@ -193,11 +203,11 @@ more-at list t (f ∷ fs) h =
     let s : t + 1 + m ≡ t + suc m = omega arith in
     rw e
     (more-at (put list t f) (t + 1) fs (omega (arith, put-keeps-room list t f))
-    ∙ rw (r, put-take list t f k, put-drop list t f (t + 1 + m) (omega arith))
-    (rw (append-assoc, s))))
+    ∙ rw (r, put-take list t f k, put-drop list t f k (t + 1 + m) (omega arith))
+    (rw (append-assoc (take (width * t) list), append-assoc (numbers f), s))))
     (λ k.
     let e : room list - t ≡ 0 = omega arith in
-    rw (put-full list t f k, e, more-full list (t + 1) fs (omega arith), add-zero) (sym (take-append-drop (4 * t) list)))
+    rw (put-full list t f k, e, more-full list (t + 1) fs (omega arith), add-zero) (sym (take-append-drop (width * t) list)))
 
 -- noted one after the other from the start, the faults leave what the paper says
 pub more-after : (list : List ℕ) (fs : List Fault) → more list 0 fs ≡ after list fs
@@ -211,6 +221,16 @@ more-after list fs =
 pub noted-none : (list : List ℕ) (t : ℕ) → Noted list t [] list t
 unfolding more
 noted-none list t = record { total = omega arith; left = refl }
+
+-- one record, where there is room for it and where there is not
+module _ (list : List ℕ) (t : ℕ) (f : Fault) where
+  pub noted-one : t < room list → Noted list t (f ∷ []) (take (width * t) list ++ numbers f ++ drop (width * (t + 1)) list) (t + 1)
+  unfolding more
+  noted-one h = record { total = refl; left = sym (put-room list t f h) }
+
+  pub noted-full : room list ≤ t → Noted list t (f ∷ []) list (t + 1)
+  unfolding more
+  noted-full h = record { total = refl; left = sym (put-full list t f h) }
 
 noted-append : {list list′ list″ : List ℕ} {t r s : ℕ} {fs gs : List Fault} → Noted list t fs list′ r → Noted list′ r gs list″ s → Noted list t (fs ++ gs) list″ s
 noted-append {list} {list′} {list″} {t} {r} {s} {fs} {gs} a b =

@@ -1,19 +1,16 @@
 -- The list as a loop leaves it that notes faults one after the other: what `Records` says at once, said record by record.
 use mathlib.Core.Path.{_≡_}
-use mathlib.Core.List.{List, [], _∷_}
+use mathlib.Core.List.{List, [], _∷_, _++_}
 use Prim.Native.Nat.{ℕ, _+_, _*_}
 use lib.Dec.{ltb}
-use lib.ListN.{length, set}
+use lib.ListN.{length, take, drop}
 use Rattle.base.specs.Pick.{pick}
 use Rattle.paper.specs.declared.Fault.{Fault}
-use Rattle.rules_surveys.specs.Records.{room}
+use Rattle.rules_surveys.specs.Records.{numbers, width, room}
 
 -- one record more, after t of them
 unfoldable pub put : List ℕ → ℕ → Fault → List ℕ
-put list t f =
-    pick (ltb t (room list))
-    (set (set (set (set list (4 * t) (f .channel)) (4 * t + 1) (f .sequence)) (4 * t + 2) (f .place .0)) (4 * t + 3) (f .fault))
-    list
+put list t f = pick (ltb t (room list)) (take (width * t) list ++ numbers f ++ drop (width * (t + 1)) list) list
 
 -- records more, after t of them
 unfoldable pub more : List ℕ → ℕ → List Fault → List ℕ

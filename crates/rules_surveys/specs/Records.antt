@@ -4,14 +4,22 @@ use Prim.Native.Nat.{ℕ, _*_, _/_}
 use lib.ListN.{length, take, drop}
 use Rattle.paper.specs.declared.Fault.{Fault}
 
--- "channel, sequence, place, fault", record after record
+-- "channel, sequence, place, fault"
+unfoldable pub numbers : Fault → List ℕ
+numbers f = f .channel ∷ f .sequence ∷ f .place .0 ∷ f .fault ∷ []
+
+-- how many they are
+abbrev pub width : ℕ
+width = 4
+
+-- record after record
 unfoldable pub flat : List Fault → List ℕ
 flat [] = []
-flat (f ∷ fs) = f .channel ∷ f .sequence ∷ f .place .0 ∷ f .fault ∷ flat fs
+flat (f ∷ fs) = numbers f ++ flat fs
 
 -- "Room is the list's length div 4"
 unfoldable pub room : List ℕ → ℕ
-room list = length list / 4
+room list = length list / width
 
 -- "the first faults are kept"
 unfoldable pub kept : List ℕ → List Fault → List Fault
@@ -19,4 +27,4 @@ kept list fs = take (room list) fs
 
 -- the list afterwards: the kept records, and "unused entries stay"
 unfoldable pub after : List ℕ → List Fault → List ℕ
-after list fs = flat (kept list fs) ++ drop (4 * length (kept list fs)) list
+after list fs = flat (kept list fs) ++ drop (width * length (kept list fs)) list

@@ -10,6 +10,7 @@ use Rattle.paper.specs.declared.System.{System}
 use Rattle.paper.specs.declared.Survey.{Survey}
 use Rattle.rules_format.specs.Systems.{sequencesOf, rateOf, numberOfSystem}
 use Rattle.rules_surveys.specs.FaultLists.{frameFaults}
+use Rattle.rules_surveys.specs.Records.{width}
 use Rattle.rules_format.proofs.Systems.{system-number, sequences-some}
 use Rattle.rules_surveys.proofs.Records.{noted-length}
 use Rattle.rules_surveys.proofs.Calls.{survey-2}
@@ -22,14 +23,15 @@ use Rattle.verdict.specs.Length.{answerOf, Answered}
 use Rattle.verdict.proofs.Answers.{answered-is}
 use Rattle.survey.specs.Program.{bytesOf, Ended, inputText, Said, Rooms, Surveyed}
 
-module _ (list₀ buf list : List ℕ) (r : Reading) (room : length list₀ ≡ 256) (d : Ended list₀ buf list r) (y : System) (rate : rateOf y ≡ dsfIn (bytesOf (d .before) buf r)) where
+module _ (list₀ buf list : List ℕ) (r : Reading) (room : length list₀ ≡ 64 * width) (d : Ended list₀ buf list r) (y : System)
+    (rate : rateOf y ≡ dsfIn (bytesOf (d .before) buf r)) where
   -- the lines are the text of the bytes that the refills gave, in every system of the first block's rate
   pub program-prints : linesOf (answerOf r (length list)) list ≡ inputText y (bytesOf (d .before) buf r)
   program-prints =
       let size : length list ≡ length list₀ = noted-length (d .read .noted) in
       let s = answered-is r (length list) .surveys list₀ (bytesOf (d .before) buf r) list (sym size) (d .read) y rate in
-      let four : length list₀ / 4 ≡ 64 = omega arith in
-      lines-text _ (frameFaults y (bytesOf (d .before) buf r)) list₀ list _ 65 (omega arith) (s .answer) (s .left) ∙ rw four refl
+      let all : length list₀ / width ≡ 64 = omega arith in
+      lines-text _ (frameFaults y (bytesOf (d .before) buf r)) list₀ list _ 65 (omega arith) (s .answer) (s .left) ∙ rw all refl
 
   -- "A wrong length .. prints `E`, tab, `2` only."
   pub prints-wrong-length : (length (bytesOf (d .before) buf r) ≡ 48000 * sequencesOf y → ⊥) → linesOf (answerOf r (length list)) list ≡ 0x45 ∷ 0x09 ∷ 0x32 ∷ 0x0A ∷ []

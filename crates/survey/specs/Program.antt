@@ -7,6 +7,7 @@ use lib.ListN.{length, take, drop}
 use Rattle.paper.specs.declared.System.{System}
 use Rattle.rules_format.specs.Systems.{rateOf, numberOfSystem}
 use Rattle.rules_surveys.specs.FaultLists.{frameFaults}
+use Rattle.rules_surveys.specs.Records.{width}
 use Rattle.rules_surveys.specs.Survey.{surveyNumber}
 use Rattle.report.specs.Printed.{surveyText, Texted}
 use Rattle.verdict.specs.Length.{answerOf}
@@ -44,8 +45,8 @@ pub record Starts (t out out′ : List ℕ) (n : ℕ) : Type 0 where
 
 -- of an input that was read, out′ has what document 01 says of its bytes, in every system of the first block's rate
 pub record Said (r : Reading) (list out out′ : List ℕ) (n : ℕ) : Type 0 where
-  pub says : (list₀ buf : List ℕ) → length list₀ ≡ 256 → 4160 ≤ length out → (d : Ended list₀ buf list r) (y : System) → rateOf y ≡ dsfIn (bytesOf (d .before) buf r)
-      → Starts (inputText y (bytesOf (d .before) buf r)) out out′ n
+  pub says : (list₀ buf : List ℕ) → length list₀ ≡ 64 * width → 4160 ≤ length out → (d : Ended list₀ buf list r) (y : System)
+      → rateOf y ≡ dsfIn (bytesOf (d .before) buf r) → Starts (inputText y (bytesOf (d .before) buf r)) out out′ n
   pub texted : Texted (answerOf r (length list)) list out out′ n
 
 -- ---- the whole
@@ -53,7 +54,7 @@ pub record Said (r : Reading) (list out out′ : List ℕ) (n : ℕ) : Type 0 wh
 -- one sequence, 64 records, and their lines
 pub record Rooms (buf list text : List ℕ) : Type 0 where
   pub sequence : length buf ≡ 12000
-  pub records : length list ≡ 256
+  pub records : length list ≡ 64 * width
   pub lines : 4160 ≤ length text
 
 -- the refills gave bytes, of which buf still has the last, up to the input's end; text′ begins with what document 01 has printed of them, n bytes

@@ -2,6 +2,7 @@
 ghost use mathlib.Core.Path.{_≡_};
 ghost use lib.ListN.{length};
 ghost use Rattle.survey.specs.Program.{Ended, Said, Rooms, Surveyed};
+use fault_list::RECORD;
 use layout::SEQUENCE;
 use stream::Reading;
 
@@ -49,7 +50,7 @@ fn print(text: &[u8], n: usize) {
 // The list has room for 64 records, the text for their lines.
 fn main() {
     let mut buf = [0u8; SEQUENCE];
-    let mut list = [0u32; 256];
+    let mut list = [0u32; 64 * RECORD];
     let mut text = [0u8; 4160];
     let n = survey(&mut buf, &mut list, &mut text);
     print(&text, n);

@@ -14,6 +14,7 @@ use Rattle.paper.specs.declared.System.{System}
 use Rattle.paper.specs.declared.Survey.{Survey}
 use Rattle.rules_format.specs.Systems.{sequencesOf, rateOf, numberOfSystem}
 use Rattle.rules_surveys.specs.FaultLists.{partFaults, channelFaults, frameFaults}
+use Rattle.rules_surveys.specs.Records.{width}
 use Rattle.rules_surveys.specs.Noting.{Noted}
 use Rattle.rules_surveys.specs.Survey.{refusal}
 use Rattle.rules_format.proofs.Systems.{system-number, sequences-some, sequences-le, rate-sequences}
@@ -106,7 +107,7 @@ module _ (r : Reading) (size : ℕ) (list₀ bytes list : List ℕ) (room : leng
       let faults : readFaults (systemFrom bytes) bytes ≡ frameFaults y bytes =
       frame-read (systemFrom bytes) bytes (whole ∙ ap (λ (k : ℕ). 48000 * k) (sym s)) ∙ faults-sequences (systemFrom bytes) y bytes s in
       let n : Noted list₀ 0 (frameFaults y bytes) list (r .total) = rw faults at (d .noted) in
-      let done = survey-done _ (frameFaults y bytes) list₀ list (r .total) _ z n (ap (λ (k : ℕ). min (k / 4) (r .total)) (sym room)) in
+      let done = survey-done _ (frameFaults y bytes) list₀ list (r .total) _ z n (ap (λ (k : ℕ). min (k / width) (r .total)) (sym room)) in
       record { answer = done .answer; left = λ _. survey-taken done z .1 }
 
   surveys-wrong : (r .count ≡ 48000 * sequencesOf (r .system) → ⊥) → Surveys y bytes list₀ list (refusal 2)
