@@ -18,8 +18,8 @@ fn is_named(id: IdAnswer) -> bool
     }
 }
 
-// Whether every block is named and the judged bits of its ID are its place's. No early return, so that a block costs few
-// instructions.
+// Whether every block is named and the judged bits of its ID are its place's. No early return, and the bits are asked before the
+// ID, so that a block costs few instructions.
 pub(crate) fn clean_part(part: &[u8], h: u32, q: u32) -> bool
     requires { ⌜ PartAsked (now part) h q ⌝ }
     ensures { λ r. ⌜ Clean r (sequenceFaults (now (part .entry)) h q) ⌝ }
@@ -32,8 +32,8 @@ pub(crate) fn clean_part(part: &[u8], h: u32, q: u32) -> bool
         let i = p as usize;
         let at = i * BLOCK;
         let block = &part[at..at + BLOCK];
-        let named = is_named(layout::read_block(block));
         let bits = judged_bits::judged(block);
+        let named = is_named(layout::read_block(block));
         good = good & (named & (bits == table[i] + key));
         p += 1;
     }

@@ -42,14 +42,14 @@ part-block-start c = omega arith
 part-block-end : tie.Need-part-block-end Inv-loop μ-loop
 part-block-end c = omega arith
 
+judged-requires : tie.Need-judged-requires Inv-loop μ-loop
+judged-requires c κs = search needs
+
 read-block-requires : tie.Need-read-block-requires Inv-loop μ-loop
 read-block-requires c κs = search needs
 
 is-named-requires : tie.Need-is-named-requires Inv-loop μ-loop
 is-named-requires c κs = search needs
-
-judged-requires : tie.Need-judged-requires Inv-loop μ-loop
-judged-requires c κs = search needs
 
 mul-good : tie.Need-mul-good Inv-loop μ-loop
 mul-good c = omega arith
@@ -87,9 +87,9 @@ clean-part-spec =
     sub-block
     part-block-start
     part-block-end
+    judged-requires
     read-block-requires
     is-named-requires
-    judged-requires
     mul-good
     array-read-good
     add-good
