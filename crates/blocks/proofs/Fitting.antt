@@ -3,14 +3,14 @@ use mathlib.Core.Path.{_≡_, refl, sym, _∙_}
 use mathlib.Core.Bool.{Bool, true, false, _&&_}
 use mathlib.Core.List.{List}
 use Prim.Native.Nat.{ℕ, _*_}
-use lib.Dec.{eqb, ltb}
+use lib.Dec.{eqb, ltb, leb}
 use lib.IntN.{ℤ}
 use lib.ListN.{length}
-use borrow.Author.Tests.{eq-eqb, ne-eqb, eqb-true, ltb-true}
+use borrow.Author.Tests.{eq-eqb, ne-eqb, eqb-true, ltb-true, leb-true}
 use Rattle.base.specs.Pick.{pick}
 use Rattle.base.proofs.Picks.{pick-true, pick-false, both-held}
 use Rattle.paper.specs.declared.System.{System}
-use Rattle.rules_format.specs.Systems.{sequencesOf, isCount, macroblocksOf}
+use Rattle.rules_format.specs.Systems.{halfOf, macroblocksOf}
 use Rattle.blocks.specs.Asked.{NumberAsked, AudioAsked, VideoAsked}
 use Rattle.blocks.specs.Fits.{numberFits, audioFits, videoFits}
 
@@ -42,24 +42,20 @@ module _ (ws xs : List ℕ) (k n : ℕ) where
 
 -- ---- audio and video
 
-pub audio-fit : (size : ℕ) (y : System) (h q count samples a n : ℕ) (b : Bool) → n ≡ sequencesOf y → b ≡ isCount y count
-    → ((eqb size 80 && ltb a 9) && ((ltb h 4 && ltb q n) && (b && eqb samples (8 * count)))) ≡ audioFits size y h q count samples a
+pub audio-fit : (size : ℕ) (y : System) (samples a s : ℕ) → s ≡ halfOf y → ((eqb size 80 && ltb a 9) && leb (315 * s) samples) ≡ audioFits size y samples a
 unfolding audioFits
-audio-fit size y h q count samples a n b en eb = rw (en, eb) refl
+audio-fit size y samples a s es = rw es refl
 
 pub video-fit : (size : ℕ) (y : System) (bytes n : ℕ) → n ≡ macroblocksOf y → (eqb size 80 && eqb bytes (77 * n)) ≡ videoFits size y bytes
 unfolding videoFits
 video-fit size y bytes n en = rw en refl
 
-pub audio-asked : (xs : List ℕ) (y : System) (h q count a : ℕ) (sound : List ℤ) (r : Bool) → r ≡ audioFits (length xs) y h q count (length sound) a → r ≡ true → AudioAsked xs y h q count sound a
+pub audio-asked : (xs : List ℕ) (y : System) (samples : List ℤ) (a : ℕ) (r : Bool) → r ≡ audioFits (length xs) y (length samples) a → r ≡ true → AudioAsked xs y samples a
 unfolding audioFits
-audio-asked xs y h q count a sound r er e =
+audio-asked xs y samples a r er e =
     let w = both-held _ _ (sym er ∙ e) in
     let u = both-held _ _ (w .0) in
-    let v = both-held _ _ (w .1) in
-    let i = both-held _ _ (v .0) in
-    let j = both-held _ _ (v .1) in
-    record { long = eqb-true _ _ (u .0); channel = ltb-true _ _ (i .0); sequence = ltb-true _ _ (i .1); counts = j .0; sounds = eqb-true _ _ (j .1); below = ltb-true _ _ (u .1) }
+    record { long = eqb-true _ _ (u .0); below = ltb-true _ _ (u .1); turns = leb-true _ _ (w .1) }
 
 pub video-asked : (xs : List ℕ) (y : System) (macroblocks : List ℕ) (r : Bool) → r ≡ videoFits (length xs) y (length macroblocks) → r ≡ true → VideoAsked xs y macroblocks
 unfolding videoFits

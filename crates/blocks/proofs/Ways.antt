@@ -1,5 +1,5 @@
 -- Each way out of the block writers, by what their callees left. Assumes nothing.
-use mathlib.Core.Path.{_≡_, refl, sym, ap, _∙_, subst}
+use mathlib.Core.Path.{_≡_, refl, sym, ap, _∙_}
 use mathlib.Core.Bool.{Bool}
 use mathlib.Core.List.{List, [], _∷_, _++_, append-nil}
 use Prim.Native.Nat.{ℕ, _+_, _-_, _*_, _%_, _^_, _≤_, _<_}
@@ -9,45 +9,42 @@ use native.Mathlib.Omega.{arith}
 use lib.IntN.{ℤ, pos}
 use lib.Signed.{mag}
 use lib.ListN.{length, take, drop, getD, set, replicate, drop-of-length-le}
-use lib.Seq.{drop-drop, take-all, paste-suc, getD-take, getD-drop}
+use lib.Seq.{drop-drop, take-all, paste-suc}
 use mir.Syntax.{w32, w64}
 use mir.Val.{toZ, ofZ, Fits}
 use mir.ValLaws.{toZ-ofZ}
 use borrow.Author.Tests.{lt-ltb, le-ltb}
 use borrow.Rule.Slice.PartMut.{putMid, postOf}
 use Rattle.base.specs.Run.{run}
-use Rattle.base.proofs.Cases.{by-lt}
 use Rattle.base.proofs.Picks.{pick-true, pick-false, pick-either}
-use Rattle.base.proofs.Runs.{run-same, end-within, tab-part}
+use Rattle.base.proofs.Runs.{run-same, tab-part}
 use Rattle.base.proofs.Filling.{Filled, filled-next, filled-end}
-use Rattle.base.proofs.Parts.{length-part, range-part}
+use Rattle.base.proofs.Parts.{range-part}
 use Rattle.paper.specs.declared.System.{System}
 use Rattle.paper.specs.declared.BlockId.{BlockId}
 use Rattle.paper.specs.declared.Pack.{Pack}
+use Rattle.paper.specs.declared.SubcodeData.{SubcodeData}
 use Rattle.paper.specs.declared.SubcodePack.{SubcodePack}
 use Rattle.paper.specs.declared.Carried.{Carried}
 use Rattle.paper.specs.declared.Carried.the-variants.{Macroblock, Nothing}
 use Rattle.rules_format.specs.Systems.{halfOf}
 use Rattle.rules_format.specs.Ids.{idBytes}
-use Rattle.rules_packs.specs.Packs.{packBytes, packOf}
+use Rattle.rules_packs.specs.Packs.{packBytes}
 use Rattle.rules_packs.specs.Header.{rateByte, headerBytes}
-use Rattle.rules_packs.specs.TimeCode.{timePack, groupPack}
 use Rattle.rules_packs.specs.Subcode.{kindOf, subcodePack, frByte, ssyb, ssybs, subcodeBytes}
 use Rattle.rules_packs.specs.Vaux.{vauxPack, vauxPacks, vauxBytes}
 use Rattle.rules_packs.specs.Aaux.{aauxPack}
 use Rattle.rules_format.specs.Samples.{wordFor, bytesOf}
-use Rattle.rules_format.specs.Sound.{audioAt, rankAt, firstAt}
+use Rattle.rules_format.specs.Sound.{rankAt, firstAt}
 use Rattle.rules_picture.specs.Picture.{slot, carriedIn}
-use Rattle.promises.specs.Contents.{Contents}
-use Rattle.rules_writes.specs.Written.{storedWord, wordBytes, audioBytes, carriedBytes}
-use Rattle.rules_writes.specs.Write.{contentsOf}
-use Rattle.rules_format.proofs.Systems.{half-cases, half-twice, count-below, positions-le, count-turns}
+use Rattle.rules_writes.specs.Written.{sampleWord, wordBytes, audioBytes, carriedBytes, videoBytes}
+use Rattle.rules_format.proofs.Systems.{half-cases}
 use Rattle.rules_format.proofs.Samples.{word-below}
-use Rattle.rules_format.proofs.Sound.{Half, half-some, half-le, first-below, audio-within}
+use Rattle.rules_format.proofs.Sound.{Half, half-some, half-le, first-below}
 use Rattle.rules_picture.proofs.Picture.{carried-lies}
 use Rattle.rules_packs.proofs.Subcode.{ssyb-length}
-use Rattle.blocks.specs.Asked.{ChannelAsked, SamplesAsked, WordsAsked, AudioAsked, VideoAsked}
-use Rattle.blocks.specs.Words.{samplesOf, sampleWord, wordPair}
+use Rattle.blocks.specs.Asked.{WordsAsked, SamplesAsked, AudioAsked, VideoAsked}
+use Rattle.blocks.specs.Words.{wordPair}
 
 -- ---- the first bytes of a list, stored one after the other
 
@@ -92,50 +89,49 @@ header-done xs ys zs ws id y r n ey ez er ew = rw (ez, ey, n, ew, er) refl
 
 -- ---- the subcode
 
-pub ssyb-done : (xs hs ps : List ℕ) (first : Bool) (time group p : Pack) (k i : ℕ) (kind : SubcodePack) → length xs ≡ 8 → i ≡ frByte first → hs ≡ i ∷ (240 + k) ∷ 255 ∷ []
-    → kind ≡ kindOf first k → p ≡ subcodePack kind time group → ps ≡ packBytes p → putMid 3 5 (hs ++ postOf 0 3 xs) ps ≡ ssyb first time group k
+pub ssyb-done : (xs hs ps : List ℕ) (first : Bool) (said : SubcodeData) (p : Pack) (k i : ℕ) (kind : SubcodePack) → length xs ≡ 8 → i ≡ frByte first → hs ≡ i ∷ (240 + k) ∷ 255 ∷ []
+    → kind ≡ kindOf first k → p ≡ subcodePack kind (said .time) (said .group) → ps ≡ packBytes p → putMid 3 5 (hs ++ postOf 0 3 xs) ps ≡ ssyb first said k
 unfolding ssyb
-ssyb-done xs hs ps first time group p k i kind n ei eh ek ep eps =
+ssyb-done xs hs ps first said p k i kind n ei eh ek ep eps =
     let e : drop 5 (drop 3 xs) ≡ [] = drop-drop 5 3 xs ∙ none-left 8 xs n in
     rw (eh, eps, ei, e, ep, ek) refl
 
 -- the six of a block, in a loop
-module _ (first : Bool) (time group : Pack) (k : ℕ) where
+module _ (first : Bool) (said : SubcodeData) (k : ℕ) where
   abbrev pub ssyb-at : ℕ → List ℕ
-  ssyb-at j = ssyb first time group (6 * k + j)
+  ssyb-at j = ssyb first said (6 * k + j)
 
   module _ (j : ℕ) (d xs : List ℕ) (ex : Filled 8 ssyb-at j d xs) where
-    pub ssybs-turn : (ys : List ℕ) → ys ≡ ssyb first time group (6 * k + j) → Filled 8 ssyb-at (j + 1) d (putMid (j * 8) (j * 8 + 8 - j * 8) xs ys)
-    ssybs-turn ys ey = filled-next 8 ssyb-at (λ i. ssyb-length time group (6 * k + i) first) j d xs ys ex ey
+    pub ssybs-turn : (ys : List ℕ) → ys ≡ ssyb first said (6 * k + j) → Filled 8 ssyb-at (j + 1) d (putMid (j * 8) (j * 8 + 8 - j * 8) xs ys)
+    ssybs-turn ys ey = filled-next 8 ssyb-at (λ i. ssyb-length said (6 * k + i) first) j d xs ys ex ey
 
-    pub ssybs-done : length d ≡ 48 → j ≤ 6 → 6 ≤ j → xs ≡ ssybs first time group k
+    pub ssybs-done : length d ≡ 48 → j ≤ 6 → 6 ≤ j → xs ≡ ssybs first said k
     unfolding ssybs
     ssybs-done e le ge = filled-end 8 ssyb-at j 6 d xs ex e le ge
 
-pub subcode-done : (xs ys zs ws time group : List ℕ) (id : BlockId) (first : Bool) (k : ℕ) (t g : Pack) → length xs ≡ 80 → ys ≡ replicate (length xs) 255 → zs ≡ idBytes id
-    → t ≡ packOf 19 time → g ≡ packOf 20 group → ws ≡ ssybs first t g k
-    → putMid 3 48 (zs ++ postOf 0 3 ys) ws ≡ idBytes id ++ subcodeBytes first (timePack time) (groupPack group) k
+pub subcode-done : (xs ys zs ws : List ℕ) (id : BlockId) (first : Bool) (said : SubcodeData) (k : ℕ) → length xs ≡ 80 → ys ≡ replicate (length xs) 255 → zs ≡ idBytes id
+    → ws ≡ ssybs first said k → putMid 3 48 (zs ++ postOf 0 3 ys) ws ≡ idBytes id ++ subcodeBytes first said k
 unfolding idBytes subcodeBytes
-subcode-done xs ys zs ws time group id first k t g n ey ez et eg ew = rw (ez, ey, n, ew, et, eg) refl
+subcode-done xs ys zs ws id first said k n ey ez ew = rw (ez, ey, n, ew) refl
 
 -- ---- VAUX
 
-module _ (y : System) (q k : ℕ) where
+module _ (vs vsc : Pack) (q k : ℕ) where
   abbrev pub pack-at : ℕ → List ℕ
-  pack-at j = packBytes (vauxPack y q (15 * k + j))
+  pack-at j = packBytes (vauxPack vs vsc q (15 * k + j))
 
   module _ (j : ℕ) (d xs : List ℕ) (ex : Filled 5 pack-at j d xs) where
-    pub packs-turn : (ys : List ℕ) (p : Pack) → p ≡ vauxPack y q (15 * k + j) → ys ≡ packBytes p → Filled 5 pack-at (j + 1) d (putMid (j * 5) (j * 5 + 5 - j * 5) xs ys)
+    pub packs-turn : (ys : List ℕ) (p : Pack) → p ≡ vauxPack vs vsc q (15 * k + j) → ys ≡ packBytes p → Filled 5 pack-at (j + 1) d (putMid (j * 5) (j * 5 + 5 - j * 5) xs ys)
     packs-turn ys p ep ey = filled-next 5 pack-at (λ i. refl) j d xs ys ex (ey ∙ ap packBytes ep)
 
-    pub packs-done : length d ≡ 75 → j ≤ 15 → 15 ≤ j → xs ≡ vauxPacks y q k
+    pub packs-done : length d ≡ 75 → j ≤ 15 → 15 ≤ j → xs ≡ vauxPacks vs vsc q k
     unfolding vauxPacks
     packs-done e le ge = filled-end 5 pack-at j 15 d xs ex e le ge
 
-pub vaux-done : (xs ys zs ws : List ℕ) (id : BlockId) (y : System) (q k : ℕ) → length xs ≡ 80 → ys ≡ replicate (length xs) 255 → zs ≡ idBytes id → ws ≡ vauxPacks y q k
-    → putMid 3 75 (zs ++ postOf 0 3 ys) ws ≡ idBytes id ++ vauxBytes y q k
+pub vaux-done : (xs ys zs ws : List ℕ) (id : BlockId) (vs vsc : Pack) (q k : ℕ) → length xs ≡ 80 → ys ≡ replicate (length xs) 255 → zs ≡ idBytes id → ws ≡ vauxPacks vs vsc q k
+    → putMid 3 75 (zs ++ postOf 0 3 ys) ws ≡ idBytes id ++ vauxBytes vs vsc q k
 unfolding idBytes vauxBytes
-vaux-done xs ys zs ws id y q k n ey ez ew = rw (ez, ey, n, ew) refl
+vaux-done xs ys zs ws id vs vsc q k n ey ez ew = rw (ez, ey, n, ew) refl
 
 -- ---- audio: the words
 
@@ -189,101 +185,36 @@ module _ (xs : List ℤ) (first step t w : ℕ) (at : t ≡ step * w + first) (s
         let last : ys ≡ wordPair xs first step 35 = ey ∙ ap bytesOf (ew ∙ ap (sampleWord xs) (at ∙ ap (λ (i : ℕ). step * i + first) e)) in
         filled-end 2 (wordPair xs first step) 36 36 d (putMid 70 2 part ys) (filled-next 2 (wordPair xs first step) (λ i. refl) 35 d part ys whole last) n (omega arith) (omega arith)
 
--- ---- audio: the samples of a channel
-
-pub samples-lent : (sound : List ℤ) (c count : ℕ) → take ((c - 1) * count + count - (c - 1) * count) (drop ((c - 1) * count) sound) ≡ samplesOf sound c count
-unfolding samplesOf
-samples-lent sound c count = range-part ((c - 1) * count) count sound
-
-module _ (sound : List ℤ) (c count : ℕ) (c1 : 0 < c) (c8 : c < 9) (sounds : length sound ≡ 8 * count) where
-  samples-end : (c - 1) * count + count ≤ 8 * count
-  samples-end = end-within count (c - 1) 8 (omega arith)
-
-  pub samples-within : (c - 1) * count + count ≤ length sound
-  samples-within = omega (arith, samples-end)
-
-  pub samples-fit : count < 2000 → Fits w64 ((c - 1) * count)
-  samples-fit few = omega (arith, samples-end)
-
-  pub samples-end-fits : count < 2000 → Fits w64 ((c - 1) * count + count)
-  samples-end-fits few = omega (arith, samples-end)
-
-  pub samples-bytes-fit : count < 2000 → Fits w64 ((c - 1) * count * 4)
-  samples-bytes-fit few = omega (arith, samples-end)
-
-  pub samples-length : length (samplesOf sound c count) ≡ count
-  unfolding samplesOf
-  samples-length = length-part ((c - 1) * count) count sound samples-within
-
-  samples-at : (t : ℕ) → t < count → getD (samplesOf sound c count) t (pos 0) ≡ getD sound ((c - 1) * count + t) (pos 0)
-  unfolding samplesOf
-  samples-at t h = getD-take count (drop ((c - 1) * count) sound) t (pos 0) h ∙ getD-drop ((c - 1) * count) sound t (pos 0)
-
-  -- their words are those that are stored
-  pub samples-stored : (l : Contents) (t : ℕ) → l .count ≡ count → l .sound ≡ sound → sampleWord (samplesOf sound c count) t ≡ storedWord l c t
-  unfolding sampleWord storedWord
-  samples-stored l t en es =
-      by-lt t count
-      (λ h.
-      pick-true _ _ (lt-ltb t _ (omega (arith, samples-length)))
-      ∙ ap wordFor (samples-at t h)
-      ∙ rw (← es, ← en) (sym (pick-true _ _ (lt-ltb t (l .count) (omega (arith, en))))))
-      (λ h. pick-false _ _ (le-ltb t _ (omega (arith, samples-length))) ∙ sym (pick-false _ _ (le-ltb t (l .count) (omega (arith, en)))))
-
 -- ---- audio: the block
 
-module _ (xs : List ℕ) (y : System) (h q count a : ℕ) (sound : List ℤ) (asked : AudioAsked xs y h q count sound a) (s : ℕ) (es : s ≡ halfOf y) where
-  half : Half s
-  half = subst Half (sym es) (half-cases y)
+module _ (y : System) (samples : List ℤ) (q a s first : ℕ) (es : s ≡ halfOf y) (ef : first ≡ firstAt (halfOf y) (rankAt (halfOf y) q) (a % 9)) (part : List ℕ) (asked : SamplesAsked part y samples a) where
+  first-is : first ≡ firstAt (halfOf y) (rankAt (halfOf y) q) a
+  first-is = ef ∙ rw (mod-eq-of-lt (asked .below)) refl
 
-  below : q < 2 * s
-  below = omega (arith, asked .sequence, half-twice y, es)
+  pub words-asked : WordsAsked part samples first (9 * s)
+  words-asked =
+      let half : Half (halfOf y) = half-cases y in
+      record {
+        long = asked .long;
+        turns = omega (arith, es, asked .turns);
+        start = rw (first-is, es) (first-below (halfOf y) half (rankAt (halfOf y) q) a (mod-lt q (half-some (halfOf y) half)) (asked .below));
+        few = omega (arith, es, half-le (halfOf y) half);
+      }
 
-  pub channel-asked : ChannelAsked s h q
-  channel-asked = record { half = half; channel = asked .channel; sequence = below }
+  pub words-are : (ws : List ℕ) → ws ≡ run (wordPair samples first (9 * s)) 36 → ws ≡ run (wordBytes y samples q a) 36
+  unfolding wordPair wordBytes
+  words-are ws e = e ∙ run-same _ _ 36 (λ w hw. rw (first-is, es) refl)
 
-  module _ (c : ℕ) (ec : c ≡ audioAt s h q) where
-    within : (0 < c) × (c < 9)
-    within = rw ec (audio-within s h q half below (asked .channel))
+module _ (xs : List ℕ) (y : System) (samples : List ℤ) (a : ℕ) (asked : AudioAsked xs y samples a) where
+  pub samples-asked : (part : List ℕ) → length part ≡ 72 → SamplesAsked part y samples a
+  samples-asked part n = record { long = n; below = asked .below; turns = asked .turns }
 
-    pub samples-asked : SamplesAsked sound c count
-    samples-asked = record {
-      above = within .0;
-      below = within .1;
-      counted = omega (arith, count-below y count (asked .counts), positions-le y);
-      sounds = asked .sounds;
-    }
-
-    module _ (samples : List ℤ) (em : samples ≡ samplesOf sound c count) (first : ℕ) (ef : first ≡ firstAt (halfOf y) (rankAt (halfOf y) q) (a % 9)) where
-      first-is : first ≡ firstAt s (rankAt s q) a
-      first-is = ef ∙ rw (← es, mod-eq-of-lt (asked .below)) refl
-
-      pub words-asked : (part : List ℕ) → length part ≡ 72 → WordsAsked part samples first (9 * s)
-      words-asked part n =
-          let len : length samples ≡ count = ap length em ∙ samples-length sound c count (within .0) (within .1) (asked .sounds) in
-          let turns : 9 * halfOf y * 35 ≤ count = count-turns y count (asked .counts) in
-          record {
-            long = n;
-            turns = omega (arith, len, rw (← es) at turns);
-            start = rw first-is (first-below s half (rankAt s q) a (mod-lt q (half-some s half)) (asked .below));
-            few = omega (arith, half-le s half);
-          }
-
-      words-are : (macroblocks time group : List ℕ)
-          → run (wordPair samples first (9 * s)) 36 ≡ run (wordBytes y (contentsOf count sound macroblocks time group) h q a) 36
-      unfolding wordPair wordBytes
-      words-are macroblocks time group =
-          run-same _ _ 36 (λ w hw.
-          rw (em, first-is, ← es, ← ec)
-          (ap bytesOf (samples-stored sound c count (within .0) (within .1) (asked .sounds) (contentsOf count sound macroblocks time group) (9 * s * w + firstAt s (rankAt s q) a) refl refl)))
-
-      pub audio-done : (zs ps ws macroblocks time group : List ℕ) (id : BlockId) (p : Pack) → zs ≡ idBytes id → p ≡ aauxPack y count c q a → ps ≡ packBytes p
-          → ws ≡ run (wordPair samples first (9 * s)) 36
-          → putMid 8 72 (putMid 3 5 (zs ++ postOf 0 3 xs) ps) ws ≡ idBytes id ++ audioBytes y (contentsOf count sound macroblocks time group) h q a
-      unfolding idBytes audioBytes
-      audio-done zs ps ws macroblocks time group id p ez ep eps ew =
-          let rest : drop 72 (drop 5 (drop 3 xs)) ≡ [] = ap (drop 72) (drop-drop 5 3 xs) ∙ drop-drop 72 8 xs ∙ none-left 80 xs (asked .long) in
-          rw (ez, eps, rest, append-nil, ew, words-are macroblocks time group, ep, ec, es) refl
+  pub audio-done : (q : ℕ) (zs ps ws : List ℕ) (id : BlockId) (source asc p : Pack) → p ≡ aauxPack source asc q a → zs ≡ idBytes id → ps ≡ packBytes p
+      → ws ≡ run (wordBytes y samples q a) 36 → putMid 8 72 (putMid 3 5 (zs ++ postOf 0 3 xs) ps) ws ≡ idBytes id ++ audioBytes y source asc samples q a
+  unfolding idBytes audioBytes
+  audio-done q zs ps ws id source asc p ep ez eps ew =
+      let rest : drop 72 (drop 5 (drop 3 xs)) ≡ [] = ap (drop 72) (drop-drop 5 3 xs) ∙ drop-drop 72 8 xs ∙ none-left 80 xs (asked .long) in
+      rw (ez, eps, rest, append-nil, ew, ep) refl
 
 -- ---- video
 
@@ -309,15 +240,15 @@ module _ (xs : List ℕ) (y : System) (h q v : ℕ) (macroblocks : List ℕ) (as
   macroblock-within b e = omega (arith, asked .pictures, carried-lies y (slot h q v) b (sym er ∙ e) .0)
 
   pub macroblock-done : (zs ws : List ℕ) (id : BlockId) (b : ℕ) → r ≡ Macroblock b → zs ≡ idBytes id → ws ≡ take (77 * b + 77 - 77 * b) (drop (77 * b) macroblocks)
-      → putMid 3 77 (zs ++ postOf 0 3 xs) ws ≡ idBytes id ++ carriedBytes macroblocks (carriedIn y (slot h q v))
-  unfolding idBytes carriedBytes
+      → putMid 3 77 (zs ++ postOf 0 3 xs) ws ≡ idBytes id ++ videoBytes y macroblocks h q v
+  unfolding idBytes videoBytes carriedBytes
   macroblock-done zs ws id b e ez ew =
       let rest : drop 77 (drop 3 xs) ≡ [] = drop-drop 77 3 xs ∙ none-left 80 xs (asked .long) in
       rw (ez, rest, append-nil, ← er, e, ew, range-part (77 * b) 77 macroblocks, tab-part 0 macroblocks (77 * b) 77 (macroblock-within b e)) refl
 
   pub empty-done : (zs part ws : List ℕ) (id : BlockId) → r ≡ Nothing → zs ≡ idBytes id → length part ≡ 77 → ws ≡ replicate (length part) 255
-      → putMid 3 77 (zs ++ postOf 0 3 xs) ws ≡ idBytes id ++ carriedBytes macroblocks (carriedIn y (slot h q v))
-  unfolding idBytes carriedBytes
+      → putMid 3 77 (zs ++ postOf 0 3 xs) ws ≡ idBytes id ++ videoBytes y macroblocks h q v
+  unfolding idBytes videoBytes carriedBytes
   empty-done zs part ws id e ez n ew =
       let rest : drop 77 (drop 3 xs) ≡ [] = drop-drop 77 3 xs ∙ none-left 80 xs (asked .long) in
       rw (ez, rest, append-nil, ← er, e, ew, n) refl

@@ -1,13 +1,11 @@
 -- What the private functions ask of their callers.
 use mathlib.Core.Path.{_≡_}
-use mathlib.Core.Bool.{true}
 use mathlib.Core.List.{List}
-use mathlib.Core.Logic.{_⊎_}
 use Prim.Native.Nat.{ℕ, _*_, _≤_, _<_}
 use lib.IntN.{ℤ}
 use lib.ListN.{length}
 use Rattle.paper.specs.declared.System.{System}
-use Rattle.rules_format.specs.Systems.{sequencesOf, isCount, macroblocksOf}
+use Rattle.rules_format.specs.Systems.{halfOf, macroblocksOf}
 
 pub record WordAsked (part : List ℕ) (word : ℕ) : Type 0 where
   pub long : length part ≡ 2
@@ -37,24 +35,16 @@ pub record WordsAsked (part : List ℕ) (samples : List ℤ) (first step : ℕ) 
   pub start : first < step
   pub few : step ≤ 54
 
-pub record ChannelAsked (s h q : ℕ) : Type 0 where
-  pub half : (s ≡ 5) ⊎ (s ≡ 6)
-  pub channel : h < 4
-  pub sequence : q < 2 * s
-
-pub record SamplesAsked (sound : List ℤ) (c count : ℕ) : Type 0 where
-  pub above : 0 < c
-  pub below : c < 9
-  pub counted : count < 2000
-  pub sounds : length sound ≡ 8 * count
-
-pub record AudioAsked (block : List ℕ) (y : System) (h q count : ℕ) (sound : List ℤ) (a : ℕ) : Type 0 where
-  pub long : length block ≡ 80
-  pub channel : h < 4
-  pub sequence : q < sequencesOf y
-  pub counts : isCount y count ≡ true
-  pub sounds : length sound ≡ 8 * count
+-- and so they are, where an audio channel has 35 turns of 9s
+pub record SamplesAsked (part : List ℕ) (y : System) (samples : List ℤ) (a : ℕ) : Type 0 where
+  pub long : length part ≡ 72
   pub below : a < 9
+  pub turns : 315 * halfOf y ≤ length samples
+
+pub record AudioAsked (block : List ℕ) (y : System) (samples : List ℤ) (a : ℕ) : Type 0 where
+  pub long : length block ≡ 80
+  pub below : a < 9
+  pub turns : 315 * halfOf y ≤ length samples
 
 pub record CopyAsked (part from : List ℕ) : Type 0 where
   pub long : length part ≡ 77

@@ -11,38 +11,38 @@ use crate::parts;
 use layout::BLOCK;
 use paper::BlockId;
 use paper::BlockNumber;
-use paper::System;
+use paper::Pack;
 
 // The fifteen packs of VA(k).
-fn put_packs(part: &mut [u8], y: System, q: u32, number: BlockNumber)
+fn put_packs(part: &mut [u8], vs: Pack, vsc: Pack, q: u32, number: BlockNumber)
     requires { ⌜ PacksAsked (now part) (number .0) ⌝ }
-    ensures { λ _. ⌜ now (part .exit) ≡ vauxPacks y q (number .0) ⌝ }
+    ensures { λ _. ⌜ now (part .exit) ≡ vauxPacks vs vsc q (number .0) ⌝ }
 {
     let k = number.0;
     let mut j: u32 = 0;
     while j < 15 {
         let at = (j as usize) * 5;
         let to = at + 5;
-        parts::put_pack(&mut part[at..to], packs::vaux_pack(y, q, 15 * k + j));
+        parts::put_pack(&mut part[at..to], packs::vaux_pack(vs, vsc, q, 15 * k + j));
         j += 1;
     }
 }
 
-fn write_vaux(block: &mut [u8], id: BlockId, y: System, q: u32, k: BlockNumber)
-    requires { ⌜ NumberAsked (now block) (k .0) 3 ⌝ }
-    ensures { λ _. ⌜ now (block .exit) ≡ idBytes id ++ vauxBytes y q (k .0) ⌝ }
+fn write_vaux(block: &mut [u8], id: BlockId, vs: Pack, vsc: Pack)
+    requires { ⌜ NumberAsked (now block) (id .dbn .0) 3 ⌝ }
+    ensures { λ _. ⌜ now (block .exit) ≡ idBytes id ++ vauxBytes vs vsc (id .dseq) (id .dbn .0) ⌝ }
 {
     base::fill(block, 0xFF);
     parts::put_id(&mut block[0..3], id);
-    put_packs(&mut block[3..78], y, q, k);
+    put_packs(&mut block[3..78], vs, vsc, id.dseq, id.dbn);
 }
 
-// VA(k) of any part; one that is no block, or not that of k, stays as it is.
-pub fn put_vaux(block: &mut [u8], id: BlockId, y: System, q: u32, k: BlockNumber)
-    ensures { λ _. ⌜ now (block .exit) ≡ pick (numberFits (length (now (block .entry))) (k .0) 3) (idBytes id ++ vauxBytes y q (k .0)) (now (block .entry)) ⌝ }
+// A VAUX block of any part; one that is no block, or whose number is not below 3, stays as it is.
+pub fn put_vaux(block: &mut [u8], id: BlockId, vs: Pack, vsc: Pack)
+    ensures { λ _. ⌜ now (block .exit) ≡ pick (numberFits (length (now (block .entry))) (id .dbn .0) 3) (idBytes id ++ vauxBytes vs vsc (id .dseq) (id .dbn .0)) (now (block .entry)) ⌝ }
 {
-    let fits = (block.len() == BLOCK) & (k.0 < 3);
+    let fits = (block.len() == BLOCK) & (id.dbn.0 < 3);
     if fits {
-        write_vaux(block, id, y, q, k);
+        write_vaux(block, id, vs, vsc);
     }
 }

@@ -4,14 +4,12 @@ ghost use mathlib.Core.List.{_++_};
 ghost use lib.ListN.{length};
 ghost use Rattle.base.specs.Pick.{pick};
 ghost use Rattle.rules_format.specs.Ids.{idBytes};
-ghost use Rattle.rules_picture.specs.Picture.{slot, carriedIn};
-ghost use Rattle.rules_writes.specs.Written.{carriedBytes};
+ghost use Rattle.rules_writes.specs.Written.{videoBytes};
 ghost use Rattle.blocks.specs.Asked.{CopyAsked, VideoAsked};
 ghost use Rattle.blocks.specs.Fits.{videoFits};
 use crate::parts;
 use layout::BLOCK;
 use paper::BlockId;
-use paper::BlockNumber;
 use paper::Carried;
 use paper::System;
 
@@ -28,20 +26,12 @@ fn copy_macroblock(part: &mut [u8], from: &[u8])
     part[76] = from[76];
 }
 
-fn write_video(
-    block: &mut [u8],
-    id: BlockId,
-    y: System,
-    h: u32,
-    q: u32,
-    macroblocks: &[u8],
-    v: BlockNumber,
-)
+fn write_video(block: &mut [u8], id: BlockId, y: System, macroblocks: &[u8])
     requires { ⌜ VideoAsked (now block) y (now macroblocks) ⌝ }
-    ensures { λ _. ⌜ now (block .exit) ≡ idBytes id ++ carriedBytes (now (macroblocks .entry)) (carriedIn y (slot h q (v .0))) ⌝ }
+    ensures { λ _. ⌜ now (block .exit) ≡ idBytes id ++ videoBytes y (now (macroblocks .entry)) (id .channel) (id .dseq) (id .dbn .0) ⌝ }
 {
     parts::put_id(&mut block[0..3], id);
-    match picture::carried(y, h, q, v) {
+    match picture::carried(y, id.channel, id.dseq, id.dbn) {
         Carried::Macroblock(b) => {
             let at = 77 * (b as usize);
             let to = at + 77;
@@ -58,20 +48,12 @@ fn video_fits(size: usize, y: System, bytes: usize) -> bool
     (size == BLOCK) & (bytes == 77 * (layout::macroblocks(y) as usize))
 }
 
-// V(v) of any part; one that does not fit stays as it is.
-pub fn put_video(
-    block: &mut [u8],
-    id: BlockId,
-    y: System,
-    h: u32,
-    q: u32,
-    macroblocks: &[u8],
-    v: BlockNumber,
-)
-    ensures { λ _. ⌜ now (block .exit) ≡ pick (videoFits (length (now (block .entry))) y (length (now (macroblocks .entry)))) (idBytes id ++ carriedBytes (now (macroblocks .entry)) (carriedIn y (slot h q (v .0)))) (now (block .entry)) ⌝ }
+// A video block of any part; one that does not fit stays as it is.
+pub fn put_video(block: &mut [u8], id: BlockId, y: System, macroblocks: &[u8])
+    ensures { λ _. ⌜ now (block .exit) ≡ pick (videoFits (length (now (block .entry))) y (length (now (macroblocks .entry)))) (idBytes id ++ videoBytes y (now (macroblocks .entry)) (id .channel) (id .dseq) (id .dbn .0)) (now (block .entry)) ⌝ }
 {
     let fits = video_fits(block.len(), y, macroblocks.len());
     if fits {
-        write_video(block, id, y, h, q, macroblocks, v);
+        write_video(block, id, y, macroblocks);
     }
 }

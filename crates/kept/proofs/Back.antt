@@ -33,7 +33,7 @@ use Rattle.rules_reads.specs.Audio.{firstOfHalf, asIn, asKeeps, countIs, countF
 use Rattle.rules_reads.specs.Macroblock.{pictureRows, slotBytes}
 use Rattle.rules_reads.specs.Time.{ssybIn, timeFirst, groupFirst, settled, packAgrees, subcodeAgrees, timeRows}
 use Rattle.promises.specs.Contents.{Contents}
-use Rattle.rules_writes.specs.Written.{storedWord, writtenFrame}
+use Rattle.rules_writes.specs.Write.{storedWord, writtenFrame}
 use Rattle.rules_format.proofs.Systems.{half-cases, sequences-some}
 use Rattle.rules_packs.proofs.Packs.{taken-means, taken-ok, group-when}
 use Rattle.rules_packs.proofs.Subcode.{first-when}

@@ -21,7 +21,7 @@ use Rattle.rules_format.specs.Faults.{names}
 use Rattle.rules_format.specs.Reading.{soundBlock, soundNamed, readSample}
 use Rattle.rules_surveys.specs.Salvage.{salvageNumber, salvaged, Salvaged}
 use Rattle.promises.specs.Contents.{Contents}
-use Rattle.rules_writes.specs.Written.{storedWord, writtenFrame}
+use Rattle.rules_writes.specs.Write.{storedWord, writtenFrame}
 use Rattle.rules_writes.specs.Write.{Wrote, Takes}
 use Rattle.paper.specs.Paper
 use Rattle.paper.specs.Paper.{positions}

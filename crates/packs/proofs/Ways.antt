@@ -1,6 +1,7 @@
 -- The ways out of the functions that judge and write packs. Assumes nothing.
-use mathlib.Core.Path.{_≡_, refl, sym}
+use mathlib.Core.Path.{_≡_, refl, sym, _∙_}
 use mathlib.Core.Bool.{Bool, true, false, _&&_, _||_}
+use mathlib.Core.List.{List}
 use Prim.Native.Nat.{ℕ, _+_, _*_, _/_, _%_}
 use lib.Dec.{eqb, ltb}
 use Rattle.base.specs.Bytes.{Byte}
@@ -8,14 +9,14 @@ use Rattle.paper.specs.declared.System.{System}
 use Rattle.paper.specs.declared.Pack.{Pack}
 use Rattle.paper.specs.declared.SubcodePack.the-variants.{NoPack}
 use Rattle.rules_format.specs.Systems.{rateOf, stypeOf, isCount}
-use Rattle.rules_packs.specs.Packs.{onesAfter}
+use Rattle.rules_packs.specs.Packs.{noPack, pairAt}
 use Rattle.rules_packs.specs.Subcode.{kindOf}
-use Rattle.rules_packs.specs.TimeCode.{digitsOk, lastFrame, clockOk, timeTaken}
-use Rattle.rules_packs.specs.Vaux.{vsAt, vauxPack, vsOk}
-use Rattle.rules_packs.specs.Aaux.{asAt, sizeOf, modeOf, asPack, aauxPack, countIn, asOk}
+use Rattle.rules_packs.specs.TimeCode.{timePack, groupPack, digitsOk, lastFrame, clockOk, timeTaken}
+use Rattle.rules_packs.specs.Vaux.{vsPack, vscPack, vsOk}
+use Rattle.rules_packs.specs.Aaux.{sizeOf, modeOf, asPack, ascPack, countIn, asOk}
+use Rattle.rules_packs.specs.Repeated.{repeatedOf}
 use Rattle.rules_packs.proofs.Subcode.{kind-none-first, kind-none-second}
-use Rattle.rules_packs.proofs.Vaux.{vaux-vs, vaux-vsc, vaux-none}
-use Rattle.rules_packs.proofs.Aaux.{aaux-as, aaux-asc, aaux-none}
+use Rattle.rules_packs.proofs.Packs.{pair-source, pair-control, pair-none}
 
 -- ---- judgements, by what the callees say
 
@@ -44,32 +45,35 @@ module _ (first : Bool) (k : ℕ) where
   pub none-second : first ≡ false → (k ≡ 3 → ⊥) → (k ≡ 9 → ⊥) → NoPack ≡ kindOf first k
   none-second e d3 d9 = rw e (sym (kind-none-second k d3 d9))
 
--- ---- VS, VSC or none
+-- ---- a source pack, its control pack or none
 
-module _ (y : System) (q k vs : ℕ) (e : vs ≡ vsAt q) where
-  pub vs-way : (rate stype : ℕ) → k ≡ vs → rate ≡ rateOf y → stype ≡ stypeOf y
-      → record { pc0 = 0x60; pc1 = 0xFF; pc2 = 0xFF; pc3 = 0xC0 + rate * 0x20 + stype; pc4 = 0xFF } ≡ vauxPack y q k
-  vs-way rate stype ek er es = rw (ek, e, er, es) (sym (vaux-vs y q))
+module _ (at : ℕ) (source control : Pack) (k : ℕ) where
+  pub source-way : k ≡ at → source ≡ pairAt at source control k
+  source-way e = rw e (sym (pair-source at source control))
 
-  pub vsc-way : k ≡ vs + 1 → onesAfter 0x61 ≡ vauxPack y q k
-  vsc-way ek = rw (ek, e) (sym (vaux-vsc y q))
+  pub control-way : k ≡ at + 1 → control ≡ pairAt at source control k
+  control-way e = rw e (sym (pair-control at source control))
 
-  pub vaux-none-way : (k ≡ vs → ⊥) → (k ≡ vs + 1 → ⊥) → onesAfter 0xFF ≡ vauxPack y q k
-  vaux-none-way d d1 = sym (vaux-none y q k (rw e at d) (rw e at d1))
+  pub none-way : (p : Pack) → (k ≡ at → ⊥) → (k ≡ at + 1 → ⊥) → p ≡ noPack → p ≡ pairAt at source control k
+  none-way p d e ep = ep ∙ sym (pair-none at source control k d e)
 
--- ---- AS, ASC or none
+-- by what the callee says is the source pack's number
+pub pair-from : (at at′ : ℕ) (source control p : Pack) (k : ℕ) → at ≡ at′ → p ≡ pairAt at source control k → p ≡ pairAt at′ source control k
+pair-from at at′ source control p k e ep = ep ∙ rw e refl
+
+-- ---- VS, AS
+
+pub vs-made : (y : System) (rate stype : ℕ) → rate ≡ rateOf y → stype ≡ stypeOf y
+    → record { pc0 = 0x60; pc1 = 0xFF; pc2 = 0xFF; pc3 = 0xC0 + rate * 0x20 + stype; pc4 = 0xFF } ≡ vsPack y
+vs-made y rate stype er es = rw (er, es) refl
 
 pub as-made : (y : System) (count c size mode rate : ℕ) → size ≡ sizeOf count → mode ≡ modeOf c → rate ≡ rateOf y
     → record { pc0 = 0x50; pc1 = 0x40 + size; pc2 = 0x10 + mode; pc3 = 0xC3 + rate * 0x20; pc4 = 0xC0 } ≡ asPack y count c
 unfolding asPack
 as-made y count c size mode rate es em er = rw (es, em, er) refl
 
-module _ (y : System) (count c q a at : ℕ) (e : at ≡ asAt q) where
-  pub as-way : (p : Pack) → a ≡ at → p ≡ asPack y count c → p ≡ aauxPack y count c q a
-  as-way p ea ep = rw (ep, ea, e) (sym (aaux-as y count c q))
+-- ---- what every sequence repeats
 
-  pub asc-way : a ≡ at + 1 → onesAfter 0x51 ≡ aauxPack y count c q a
-  asc-way ea = rw (ea, e) (sym (aaux-asc y count c q))
-
-  pub aaux-none-way : (a ≡ at → ⊥) → (a ≡ at + 1 → ⊥) → onesAfter 0xFF ≡ aauxPack y count c q a
-  aaux-none-way d d1 = sym (aaux-none y count c q a (rw e at d) (rw e at d1))
+pub repeated-made : (y : System) (time group : List ℕ) (t g vs vsc asc : Pack) → t ≡ timePack time → g ≡ groupPack group → vs ≡ vsPack y → vsc ≡ vscPack → asc ≡ ascPack
+    → record { subcode = record { time = t; group = g }; vs = vs; vsc = vsc; asc = asc } ≡ repeatedOf y time group
+repeated-made y time group t g vs vsc asc et eg ev ec ea = rw (et, eg, ev, ec, ea) refl

@@ -1,6 +1,7 @@
 // The packs of the audio blocks.
 ghost use mathlib.Core.Path.{_≡_};
 ghost use Rattle.rules_packs.specs.Aaux.{asAt, sizeOf, modeOf, asPack, aauxPack, countIn, asOk};
+use crate::bytes;
 use paper::Pack;
 use paper::System;
 
@@ -30,7 +31,7 @@ fn mode_of(c: u32) -> u32
 }
 
 // The AS of audio channel c.
-fn as_pack(y: System, count: u32, c: u32) -> Pack
+pub fn as_pack(y: System, count: u32, c: u32) -> Pack
     ensures { λ r. ⌜ r ≡ asPack y count c ⌝ }
 {
     let size = size_of(count);
@@ -45,22 +46,11 @@ fn as_pack(y: System, count: u32, c: u32) -> Pack
     }
 }
 
-// Pack a of sequence q, in A(a), for audio channel c: AS, ASC behind it, or none.
-pub fn aaux_pack(y: System, count: u32, c: u32, q: u32, a: u32) -> Pack
-    ensures { λ r. ⌜ r ≡ aauxPack y count c q a ⌝ }
+// Pack a of sequence q, in A(a): the AS of its audio channel, ASC behind it, or none.
+pub fn aaux_pack(source: Pack, asc: Pack, q: u32, a: u32) -> Pack
+    ensures { λ r. ⌜ r ≡ aauxPack source asc q a ⌝ }
 {
-    let at = as_at(q);
-    if a == at {
-        return as_pack(y, count, c);
-    }
-    let header = if a == at + 1 { 0x51 } else { 0xFF };
-    Pack {
-        pc0: header,
-        pc1: 0xFF,
-        pc2: 0xFF,
-        pc3: 0xFF,
-        pc4: 0xFF,
-    }
+    bytes::pair_at(as_at(q), source, asc, a)
 }
 
 // The count that an AS says; 0 for a size that is no count's.

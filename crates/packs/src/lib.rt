@@ -1,6 +1,7 @@
 // Packs by value: what is written, and what is judged.
 mod aaux;
 mod bytes;
+mod frame;
 mod subcode;
 mod time;
 mod vaux;
@@ -8,8 +9,10 @@ mod vaux;
 pub use aaux::aaux_pack;
 pub use aaux::as_at;
 pub use aaux::as_ok;
+pub use aaux::as_pack;
 pub use aaux::count_in;
 pub use bytes::pack_of;
+pub use frame::repeated;
 pub use subcode::kind_of;
 pub use subcode::subcode_pack;
 pub use time::group_ok;

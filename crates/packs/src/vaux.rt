@@ -1,6 +1,7 @@
 // The packs of VAUX.
 ghost use mathlib.Core.Path.{_≡_};
-ghost use Rattle.rules_packs.specs.Vaux.{vsAt, vauxPack, vsOk};
+ghost use Rattle.rules_packs.specs.Vaux.{vsAt, vsPack, vauxPack, vsOk};
+use crate::bytes;
 use paper::Pack;
 use paper::System;
 
@@ -11,31 +12,27 @@ pub fn vs_at(q: u32) -> u32
     if q % 2 == 0 { 39 } else { 0 }
 }
 
-// Pack k of the 45 of sequence q: VS, VSC behind it, or none.
-pub fn vaux_pack(y: System, q: u32, k: u32) -> Pack
-    ensures { λ r. ⌜ r ≡ vauxPack y q k ⌝ }
+// The VS of a system.
+pub(crate) fn vs_pack(y: System) -> Pack
+    ensures { λ r. ⌜ r ≡ vsPack y ⌝ }
 {
-    let vs = vs_at(q);
-    if k == vs {
-        let rate = layout::rate(y);
-        let stype = layout::stype(y);
-        let pc3 = 0xC0 + rate * 0x20 + stype;
-        return Pack {
-            pc0: 0x60,
-            pc1: 0xFF,
-            pc2: 0xFF,
-            pc3: pc3 as u8,
-            pc4: 0xFF,
-        };
-    }
-    let header = if k == vs + 1 { 0x61 } else { 0xFF };
+    let rate = layout::rate(y);
+    let stype = layout::stype(y);
+    let pc3 = 0xC0 + rate * 0x20 + stype;
     Pack {
-        pc0: header,
+        pc0: 0x60,
         pc1: 0xFF,
         pc2: 0xFF,
-        pc3: 0xFF,
+        pc3: pc3 as u8,
         pc4: 0xFF,
     }
+}
+
+// Pack k of the 45 of sequence q: VS, VSC behind it, or none.
+pub fn vaux_pack(vs: Pack, vsc: Pack, q: u32, k: u32) -> Pack
+    ensures { λ r. ⌜ r ≡ vauxPack vs vsc q k ⌝ }
+{
+    bytes::pair_at(vs_at(q), vs, vsc, k)
 }
 
 // A VS agrees in 60h, rate and STYPE (22).

@@ -105,6 +105,20 @@ pub struct Pack {
     pub pc4: u8,
 }
 
+// What the subcode of every sequence of a frame says.
+pub struct SubcodeData {
+    pub time: Pack,
+    pub group: Pack,
+}
+
+// What every sequence of a frame repeats: what its subcode says, the packs of VAUX, and the ASC.
+pub struct Repeated {
+    pub subcode: SubcodeData,
+    pub vs: Pack,
+    pub vsc: Pack,
+    pub asc: Pack,
+}
+
 // What the pack of an SSYB is, by its position.
 pub enum SubcodePack {
     TimeCode,

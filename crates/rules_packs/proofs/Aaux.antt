@@ -1,5 +1,5 @@
 -- Laws of the packs of the audio blocks. Assumes nothing.
-use mathlib.Core.Path.{_≡_, refl, sym, _∙_, subst}
+use mathlib.Core.Path.{_≡_, refl, sym, subst}
 use mathlib.Core.Logic.{_⊎_, inl, inr, ⊎-elim}
 use mathlib.Core.Bool.{Bool, true, false, _&&_, _||_}
 use mathlib.Core.List.{[], _∷_}
@@ -9,13 +9,13 @@ use lib.Dec.{eqb, ltb}
 use borrow.Author.Tests.{eq-eqb, ne-eqb, eqb-true, lt-ltb, ltb-true}
 use Rattle.base.specs.Pick.{pick}
 use Rattle.base.specs.Run.{run, tab}
-use Rattle.base.proofs.Picks.{pick-true, pick-false, pick-either, both-held}
+use Rattle.base.proofs.Picks.{pick-either, both-held}
 use Rattle.paper.specs.declared.System.{System}
 use Rattle.paper.specs.declared.System.the-variants.{I60, I50, P60, P50}
 use Rattle.paper.specs.declared.Pack.{Pack}
 use Rattle.rules_format.specs.Systems.{rateOf, isCount}
-use Rattle.rules_packs.specs.Packs.{packBytes, noPack}
-use Rattle.rules_packs.specs.Aaux.{asAt, sizeOf, countOf, modeOf, asPack, ascPack, aauxPack, countIn, asOk, As}
+use Rattle.rules_packs.specs.Packs.{packBytes}
+use Rattle.rules_packs.specs.Aaux.{asAt, sizeOf, countOf, modeOf, asPack, countIn, asOk, As}
 use Rattle.rules_format.proofs.Systems.{rate-below}
 
 -- ---- sizeOf, countOf, modeOf
@@ -121,37 +121,17 @@ as-written y count c h = as-when y c (asPack y count c) (record {
   smpQu = refl;
 })
 
--- ---- asAt, aauxPack
+-- ---- asAt
 
--- "AS is pack 3 in even sequences, 0 in odd; ASC (51h, four FFh) follows."
-module _ (y : System) (count c q : ℕ) where
-  pub as-even : q % 2 ≡ 0 → aauxPack y count c q 3 ≡ asPack y count c
-  unfolding aauxPack asAt pick
+-- "AS is pack 3 in even sequences, 0 in odd"
+module _ (q : ℕ) where
+  pub as-even : q % 2 ≡ 0 → asAt q ≡ 3
+  unfolding asAt pick
   as-even h = rw h refl
 
-  pub as-odd : q % 2 ≡ 1 → aauxPack y count c q 0 ≡ asPack y count c
-  unfolding aauxPack asAt pick
+  pub as-odd : q % 2 ≡ 1 → asAt q ≡ 0
+  unfolding asAt pick
   as-odd h = rw h refl
-
-  pub asc-even : q % 2 ≡ 0 → packBytes (aauxPack y count c q 4) ≡ 0x51 ∷ 0xFF ∷ 0xFF ∷ 0xFF ∷ 0xFF ∷ []
-  unfolding aauxPack asAt pick
-  asc-even h = rw h refl
-
-  pub asc-odd : q % 2 ≡ 1 → packBytes (aauxPack y count c q 1) ≡ 0x51 ∷ 0xFF ∷ 0xFF ∷ 0xFF ∷ 0xFF ∷ []
-  unfolding aauxPack asAt pick
-  asc-odd h = rw h refl
-
-  pub aaux-as : aauxPack y count c q (asAt q) ≡ asPack y count c
-  unfolding aauxPack
-  aaux-as = pick-true _ _ (eq-eqb (asAt q) (asAt q) refl)
-
-  pub aaux-asc : aauxPack y count c q (asAt q + 1) ≡ ascPack
-  unfolding aauxPack
-  aaux-asc = pick-false _ _ (ne-eqb (asAt q + 1) (asAt q) (λ e. omega arith)) ∙ pick-true _ _ (eq-eqb (asAt q + 1) (asAt q + 1) refl)
-
-  pub aaux-none : (a : ℕ) → (a ≡ asAt q → ⊥) → (a ≡ asAt q + 1 → ⊥) → aauxPack y count c q a ≡ noPack
-  unfolding aauxPack
-  aaux-none a d e = pick-false _ _ (ne-eqb a (asAt q) d) ∙ pick-false _ _ (ne-eqb a (asAt q + 1) e)
 
 pub as-below : (q : ℕ) → asAt q + 1 < 9
 unfolding asAt

@@ -33,7 +33,7 @@ in-bytes k y known = record {
   holds-time = λ q j held. let l = time-below k y known q j held in is-time (kindOf (isFirst y q) j) (sym (holds-time k y known q j l) ∙ held);
   holds-group = λ q j held. let l = group-below k y known q j held in is-group (kindOf (isFirst y q) j) (sym (holds-group k y known q j l) ∙ held);
   ssybs = λ time group four four′ q j hj. sym (ssyb-form k y known time group four four′ q j hj);
-  subcode = λ time group q b. refl;
+  subcode = λ said q b. refl;
   ssyb-read = λ block j. refl;
   time-wrong = time-wrong k y known;
   time-right = time-right k y known;
@@ -41,7 +41,7 @@ in-bytes k y known = record {
   taken-wrong = taken-wrong k y known;
   taken-right = taken-right k y known;
   vaux = λ q j. sym (vaux-form k y known q j);
-  vaux-blocks = λ q b. refl;
+  vaux-blocks = λ vs vsc q b. refl;
   vs-at = vs-same;
   vaux-read = λ block j. refl;
   vaux-block = λ j. refl;
@@ -53,6 +53,7 @@ in-bytes k y known = record {
   as-wrong = as-wrong k y known;
   as-right = as-right k y known;
   count = λ p. count-by (p .pc1 % 64);
+  repeated = λ time group. refl;
   packs = λ p. (refl, refl);
   pack-in = λ block at. refl;
   clock-clauses = λ p. (time-means y p, time-when y p);

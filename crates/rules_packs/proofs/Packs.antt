@@ -7,16 +7,16 @@ use native.Mathlib.Omega.{arith}
 use lib.Dec.{eqb, ltb, leb}
 use lib.ListN.{length, drop, getD, replicate, List·getD-append}
 use lib.Seq.{getD-append-add}
-use borrow.Author.Tests.{eq-eqb, eqb-true, lt-ltb, ltb-true, le-leb, leb-true}
+use borrow.Author.Tests.{eq-eqb, ne-eqb, eqb-true, lt-ltb, ltb-true, le-leb, leb-true}
 use Rattle.base.specs.Pick.{pick}
 use Rattle.base.specs.Run.{run, Wide}
-use Rattle.base.proofs.Picks.{both-held}
+use Rattle.base.proofs.Picks.{pick-true, pick-false, both-held}
 use Rattle.base.proofs.Runs.{length-run, run-element, end-within}
 use Rattle.paper.specs.declared.System.{System}
 use Rattle.paper.specs.declared.System.the-variants.{I60, I50, P60, P50}
 use Rattle.paper.specs.declared.Pack.{Pack}
 use Rattle.rules_format.specs.Systems.{rateOf}
-use Rattle.rules_packs.specs.Packs.{packIn, packBytes, noPack}
+use Rattle.rules_packs.specs.Packs.{packIn, packBytes, noPack, pairAt}
 use Rattle.rules_packs.specs.Header.{headerBytes, dsfOk, flagged}
 use Rattle.rules_packs.specs.TimeCode.{valueIn, digitsOk, lastFrame, clockOk, timeOk, groupOk, bitTaken, timeTaken, Digits, Clock}
 
@@ -28,6 +28,21 @@ pack-bytes p = refl
 -- "Unlisted bytes and bits are written as ones", here where no pack is, and below after a block's last
 pub none-ones : packBytes noPack ≡ 0xFF ∷ 0xFF ∷ 0xFF ∷ 0xFF ∷ 0xFF ∷ []
 none-ones = refl
+
+-- ---- pairAt: "VSC follows it", "ASC follows"
+
+module _ (at : ℕ) (source control : Pack) where
+  pub pair-source : pairAt at source control at ≡ source
+  unfolding pairAt
+  pair-source = pick-true _ _ (eq-eqb at at refl)
+
+  pub pair-control : pairAt at source control (at + 1) ≡ control
+  unfolding pairAt
+  pair-control = pick-false _ _ (ne-eqb (at + 1) at (λ e. omega arith)) ∙ pick-true _ _ (eq-eqb (at + 1) (at + 1) refl)
+
+  pub pair-none : (k : ℕ) → (k ≡ at → ⊥) → (k ≡ at + 1 → ⊥) → pairAt at source control k ≡ noPack
+  unfolding pairAt
+  pair-none k d e = pick-false _ _ (ne-eqb k at d) ∙ pick-false _ _ (ne-eqb k (at + 1) e)
 
 -- a byte behind an ID
 pub behind-id : (id rest : List ℕ) (i : ℕ) → length id ≡ 3 → getD (id ++ rest) (3 + i) 0 ≡ getD rest i 0

@@ -14,7 +14,7 @@ use Rattle.base.proofs.Cases.{by-lt}
 use Rattle.base.proofs.Below.{below-at}
 use Rattle.base.proofs.Runs.{length-run}
 use Rattle.paper.specs.declared.System.{System}
-use Rattle.paper.specs.declared.Pack.{Pack}
+use Rattle.paper.specs.declared.SubcodeData.{SubcodeData}
 use Rattle.paper.specs.declared.SubcodePack.{SubcodePack}
 use Rattle.paper.specs.declared.SubcodePack.the-variants.{TimeCode, BinaryGroup, NoPack}
 use Rattle.rules_format.specs.Systems.{sequencesOf, halfOf}
@@ -97,42 +97,42 @@ kind-none-second k d3 d9 =
 
 -- ---- ssyb, subcodeBytes
 
-module _ (time group : Pack) (k : ℕ) where
+module _ (said : SubcodeData) (k : ℕ) where
   -- "bit 7 FR: 1 in the first n/2 sequences"
-  pub fr-first : getD (ssyb true time group k) 0 0 / 128 ≡ 1
+  pub fr-first : getD (ssyb true said k) 0 0 / 128 ≡ 1
   unfolding ssyb pick
   fr-first = refl
 
-  pub fr-second : getD (ssyb false time group k) 0 0 / 128 ≡ 0
+  pub fr-second : getD (ssyb false said k) 0 0 / 128 ≡ 0
   unfolding ssyb pick
   fr-second = refl
 
   -- "low nibble the SSYB number"
-  pub ssyb-number : (first : Bool) → k < 16 → getD (ssyb first time group k) 1 0 % 16 ≡ k
+  pub ssyb-number : (first : Bool) → k < 16 → getD (ssyb first said k) 1 0 % 16 ≡ k
   unfolding ssyb
   ssyb-number first h = omega arith
 
-  pub ssyb-length : (first : Bool) → length (ssyb first time group k) ≡ 8
+  pub ssyb-length : (first : Bool) → length (ssyb first said k) ≡ 8
   unfolding ssyb
   ssyb-length first = refl
 
-module _ (first : Bool) (time group : Pack) (k : ℕ) where
+module _ (first : Bool) (said : SubcodeData) (k : ℕ) where
   abbrev six : ℕ → List ℕ
-  six j = ssyb first time group (6 * k + j)
+  six j = ssyb first said (6 * k + j)
 
   six-wide : Wide 8 six
-  six-wide j = ssyb-length time group (6 * k + j) first
+  six-wide j = ssyb-length said (6 * k + j) first
 
-  pub subcode-length : length (subcodeBytes first time group k) ≡ 77
+  pub subcode-length : length (subcodeBytes first said k) ≡ 77
   unfolding subcodeBytes ssybs
   subcode-length = length-append (run six 6) (replicate 29 0xFF) ∙ rw (length-run 8 six six-wide 6) refl
 
-  pub subcode-rest : drop 48 (subcodeBytes first time group k) ≡ replicate 29 0xFF
+  pub subcode-rest : drop 48 (subcodeBytes first said k) ≡ replicate 29 0xFF
   unfolding subcodeBytes ssybs
   subcode-rest = drop-at (run six 6) (replicate 29 0xFF) 48 (length-run 8 six six-wide 6)
 
   -- "SSYB 0-5 in SC0, 6-11 in SC1, eight bytes each from byte 3", the pack in its last five
   pub subcode-pack : (id : List ℕ) (j : ℕ) → length id ≡ 3 → j < 6
-      → ssybPack (id ++ subcodeBytes first time group k) j ≡ subcodePack (kindOf first (6 * k + j)) time group
+      → ssybPack (id ++ subcodeBytes first said k) j ≡ subcodePack (kindOf first (6 * k + j)) (said .time) (said .group)
   unfolding subcodeBytes ssybs ssyb
   subcode-pack id j three h = part-pack id (replicate 29 0xFF) 8 six six-wide 6 j three h 3 (6 + 8 * j) (omega arith) (omega arith)

@@ -7,18 +7,18 @@ use native.Mathlib.Omega.{arith}
 use lib.Dec.{eqb}
 use lib.ListN.{length, length-append, drop}
 use lib.Seq.{drop-at}
-use borrow.Author.Tests.{eq-eqb, ne-eqb, eqb-true}
+use borrow.Author.Tests.{eq-eqb, eqb-true}
 use Rattle.base.specs.Pick.{pick}
 use Rattle.base.specs.Run.{run, Wide}
 use Rattle.base.proofs.Runs.{length-run}
-use Rattle.base.proofs.Picks.{pick-true, pick-false, pick-either, both-held}
+use Rattle.base.proofs.Picks.{pick-either, both-held}
 use Rattle.paper.specs.declared.System.{System}
 use Rattle.paper.specs.declared.System.the-variants.{I60, I50, P60, P50}
 use Rattle.paper.specs.declared.Pack.{Pack}
 use Rattle.paper.specs.declared.SystemNumber.the-variants.{Known}
 use Rattle.rules_format.specs.Systems.{rateOf, stypeOf, systemOf}
-use Rattle.rules_packs.specs.Packs.{packBytes, noPack}
-use Rattle.rules_packs.specs.Vaux.{vsAt, vsPack, vscPack, vauxPack, vauxPacks, vauxBytes, vsOk, Vs, vauxIn}
+use Rattle.rules_packs.specs.Packs.{packBytes}
+use Rattle.rules_packs.specs.Vaux.{vsAt, vsPack, vauxPack, vauxPacks, vauxBytes, vsOk, Vs, vauxIn}
 use Rattle.rules_packs.proofs.Packs.{part-pack}
 
 -- ---- vsPack, vsOk
@@ -74,46 +74,17 @@ vs-tells y z e =
     let known : Known y ≡ Known z = sym (told y) ∙ rw (rate, stype) (told z) in
     cc
 
--- ---- vsAt, vauxPack
+-- ---- vsAt
 
--- "VS is pack 39 in even sequences, 0 in odd; VSC follows it."
-module _ (y : System) (q : ℕ) where
-  pub vs-even : q % 2 ≡ 0 → vauxPack y q 39 ≡ vsPack y
-  unfolding vauxPack vsAt pick
+-- "VS is pack 39 in even sequences, 0 in odd"
+module _ (q : ℕ) where
+  pub vs-even : q % 2 ≡ 0 → vsAt q ≡ 39
+  unfolding vsAt pick
   vs-even h = rw h refl
 
-  pub vs-odd : q % 2 ≡ 1 → vauxPack y q 0 ≡ vsPack y
-  unfolding vauxPack vsAt pick
+  pub vs-odd : q % 2 ≡ 1 → vsAt q ≡ 0
+  unfolding vsAt pick
   vs-odd h = rw h refl
-
-  pub vsc-even : q % 2 ≡ 0 → packBytes (vauxPack y q 40) ≡ 0x61 ∷ 0xFF ∷ 0xFF ∷ 0xFF ∷ 0xFF ∷ []
-  unfolding vauxPack vsAt pick
-  vsc-even h = rw h refl
-
-  pub vsc-odd : q % 2 ≡ 1 → packBytes (vauxPack y q 1) ≡ 0x61 ∷ 0xFF ∷ 0xFF ∷ 0xFF ∷ 0xFF ∷ []
-  unfolding vauxPack vsAt pick
-  vsc-odd h = rw h refl
-
-  -- where the other sequences have VS, there is no pack
-  pub vs-odd-39 : q % 2 ≡ 1 → vauxPack y q 39 ≡ noPack
-  unfolding vauxPack vsAt pick
-  vs-odd-39 h = rw h refl
-
-  pub vs-even-0 : q % 2 ≡ 0 → vauxPack y q 0 ≡ noPack
-  unfolding vauxPack vsAt pick
-  vs-even-0 h = rw h refl
-
-  pub vaux-vs : vauxPack y q (vsAt q) ≡ vsPack y
-  unfolding vauxPack
-  vaux-vs = pick-true _ _ (eq-eqb (vsAt q) (vsAt q) refl)
-
-  pub vaux-vsc : vauxPack y q (vsAt q + 1) ≡ vscPack
-  unfolding vauxPack
-  vaux-vsc = pick-false _ _ (ne-eqb (vsAt q + 1) (vsAt q) (λ e. omega arith)) ∙ pick-true _ _ (eq-eqb (vsAt q + 1) (vsAt q + 1) refl)
-
-  pub vaux-none : (k : ℕ) → (k ≡ vsAt q → ⊥) → (k ≡ vsAt q + 1 → ⊥) → vauxPack y q k ≡ noPack
-  unfolding vauxPack
-  vaux-none k d e = pick-false _ _ (ne-eqb k (vsAt q) d) ∙ pick-false _ _ (ne-eqb k (vsAt q + 1) e)
 
 pub vs-below : (q : ℕ) → vsAt q + 1 < 45
 unfolding vsAt
@@ -121,23 +92,23 @@ vs-below q = pick-either (λ (k : ℕ). k + 1 < 45) _ (omega arith) (omega arith
 
 -- ---- vauxBytes
 
-module _ (y : System) (q k : ℕ) where
+module _ (vs vsc : Pack) (q k : ℕ) where
   abbrev fifteen : ℕ → List ℕ
-  fifteen j = packBytes (vauxPack y q (15 * k + j))
+  fifteen j = packBytes (vauxPack vs vsc q (15 * k + j))
 
   fifteen-wide : Wide 5 fifteen
   fifteen-wide j = refl
 
-  pub vaux-length : length (vauxBytes y q k) ≡ 77
+  pub vaux-length : length (vauxBytes vs vsc q k) ≡ 77
   unfolding vauxBytes vauxPacks
   vaux-length = length-append (run fifteen 15) (0xFF ∷ 0xFF ∷ []) ∙ rw (length-run 5 fifteen fifteen-wide 15) refl
 
-  pub vaux-rest : drop 75 (vauxBytes y q k) ≡ 0xFF ∷ 0xFF ∷ []
+  pub vaux-rest : drop 75 (vauxBytes vs vsc q k) ≡ 0xFF ∷ 0xFF ∷ []
   unfolding vauxBytes vauxPacks
   vaux-rest = drop-at (run fifteen 15) (0xFF ∷ 0xFF ∷ []) 75 (length-run 5 fifteen fifteen-wide 15)
 
   -- "45 packs, 15 to a block, five bytes each from byte 3"
-  pub vaux-pack : (id : List ℕ) (j : ℕ) → length id ≡ 3 → j < 15 → vauxIn (id ++ vauxBytes y q k) (15 * k + j) ≡ vauxPack y q (15 * k + j)
+  pub vaux-pack : (id : List ℕ) (j : ℕ) → length id ≡ 3 → j < 15 → vauxIn (id ++ vauxBytes vs vsc q k) (15 * k + j) ≡ vauxPack vs vsc q (15 * k + j)
   unfolding vauxBytes vauxPacks
   vaux-pack id j three h = part-pack id (0xFF ∷ 0xFF ∷ []) 5 fifteen fifteen-wide 15 j three h 0 _ (omega arith) at
     where

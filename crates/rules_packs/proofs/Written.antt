@@ -17,7 +17,7 @@ use Rattle.paper.specs.declared.Pack.{Pack}
 use Rattle.paper.specs.declared.SubcodePack.{SubcodePack}
 use Rattle.paper.specs.declared.SubcodePack.the-variants.{TimeCode, BinaryGroup, NoPack}
 use Rattle.rules_format.specs.Systems.{sequencesOf, halfOf, rateOf, stypeOf, systemOf}
-use Rattle.rules_packs.specs.Packs.{packBytes, noPack}
+use Rattle.rules_packs.specs.Packs.{packBytes, noPack, pairAt}
 use Rattle.rules_packs.specs.Header.{headerBytes, rateByte}
 use Rattle.rules_packs.specs.Subcode.{isFirst, kindOf, subcodePack, ssyb, frByte}
 use Rattle.rules_packs.specs.Vaux
@@ -33,6 +33,7 @@ use Rattle.rules_packs.proofs.Subcode.{isTime, isGroup, agree, agree-sa
 use Rattle.rules_format.proofs.Paper.{Columns, columns}
 use Rattle.base.proofs.Below.{below-at}
 use Rattle.rules_packs.specs.TimeCode.{timePack, groupPack}
+use Rattle.rules_packs.specs.Repeated.{subcodeOf}
 use lib.Seq.{take-all}
 use Rattle.base.specs.Run.{run, tab}
 use Rattle.base.proofs.Runs.{tab-part}
@@ -155,8 +156,8 @@ module _ (k : ℕ) (y : System) (known : systemOf k ≡ Known y) where
       let a : 0xC0 + 0x20 * rate k + stype k ≡ 0xC0 + rateOf y * 0x20 + stypeOf y = omega (arith, is .rate-is, is .stype-is) in
       λ i. 0x60 ∷ 0xFF ∷ 0xFF ∷ a i ∷ 0xFF ∷ []
 
-  pub vaux-form : (q j : ℕ) → vauxForm k q j ≡ packBytes (vauxPack y q j)
-  unfolding vauxForm vauxPack vsPack vsAt
+  pub vaux-form : (q j : ℕ) → vauxForm k q j ≡ packBytes (vauxPack (Vaux.vsPack y) vscPack q j)
+  unfolding vauxForm pairAt vsPack vsAt
   vaux-form q j = packs-form (eqb j (vsAt q)) (eqb j (vsAt q + 1)) (Vaux.vsPack y) vscPack vs-form
 
   -- ---- subcode
@@ -169,14 +170,14 @@ module _ (k : ℕ) (y : System) (known : systemOf k ≡ Known y) where
         ap₂ (λ (a b : List ℕ). pick (holdsTime (sequences k) q j) a (pick (holdsGroup (sequences k) q j) b (replicate 5 0xFF))) (sym et) (sym eg)
         ∙ rw (holds-time k y known q j hj, holds-group k y known q j hj) (pack-form (kindOf (isFirst y q) j) (timePack time) (groupPack group))
 
-    ssyb-four : ssybForm k time group q j ≡ ssyb (isFirst y q) (timePack time) (groupPack group) j
+    ssyb-four : ssybForm k time group q j ≡ ssyb (isFirst y q) (subcodeOf time group) j
     unfolding ssybForm ssyb
     ssyb-four =
         let a : 0xFF - 0x80 * halfIn k q ≡ frByte (isFirst y q) = ap (λ (first : Bool). 0xFF - 0x80 * pick first 0 1) (half-first k y known q) ∙ fr-form (isFirst y q) in
         λ i. a i ∷ (0xF0 + j) ∷ 0xFF ∷ subcode-form i
 
   pub ssyb-form : (time group : List ℕ) → length time ≡ 4 → length group ≡ 4 → (q j : ℕ) → j < 12
-      → ssybForm k time group q j ≡ ssyb (isFirst y q) (timePack time) (groupPack group) j
+      → ssybForm k time group q j ≡ ssyb (isFirst y q) (subcodeOf time group) j
   ssyb-form time group four four′ = ssyb-four time group (ap (λ (b : List ℕ). 0x13 ∷ b) (four-again time four)) (ap (λ (b : List ℕ). 0x14 ∷ b) (four-again group four′))
 
   -- ---- AAUX
@@ -202,6 +203,6 @@ module _ (k : ℕ) (y : System) (known : systemOf k ≡ Known y) where
         let r : 0xC3 + 0x20 * rate k ≡ 0xC3 + rateOf y * 0x20 = omega (arith, is .rate-is) in
         λ i. 0x50 ∷ size-form count i ∷ (0x10 + m i) ∷ r i ∷ 0xC0 ∷ []
 
-    pub aaux-form : (a : ℕ) → aauxForm k (sizeForm count) q a ≡ packBytes (aauxPack y count (audioAt (halfOf y) h q) q a)
-    unfolding aauxForm aauxPack asPack asAt
+    pub aaux-form : (a : ℕ) → aauxForm k (sizeForm count) q a ≡ packBytes (aauxPack (Aaux.asPack y count (audioAt (halfOf y) h q)) ascPack q a)
+    unfolding aauxForm pairAt asPack asAt
     aaux-form a = packs-form (eqb a (asAt q)) (eqb a (asAt q + 1)) (Aaux.asPack y count (audioAt (halfOf y) h q)) ascPack as-form

@@ -8,7 +8,7 @@ use Rattle.base.specs.Pick.{pick}
 use Rattle.paper.specs.declared.System.{System}
 use Rattle.paper.specs.declared.Pack.{Pack}
 use Rattle.rules_format.specs.Systems.{rateOf, isCount}
-use Rattle.rules_packs.specs.Packs.{packIn, onesAfter, noPack}
+use Rattle.rules_packs.specs.Packs.{packIn, onesAfter, pairAt}
 
 -- "AS is pack 3 in even sequences, 0 in odd"
 unfoldable pub asAt : ℕ → ℕ
@@ -37,9 +37,9 @@ asPack y count c = record { pc0 = 0x50; pc1 = 0x40 + sizeOf count; pc2 = 0x10 + 
 abbrev pub ascPack : Pack
 ascPack = onesAfter 0x51
 
--- pack a of sequence q, in A(a), for an audio channel
-unfoldable pub aauxPack : System → ℕ → ℕ → ℕ → ℕ → Pack
-aauxPack y count c q a = pick (eqb a (asAt q)) (asPack y count c) (pick (eqb a (asAt q + 1)) ascPack noPack)
+-- pack a of sequence q, in A(a), by its audio channel's AS
+abbrev pub aauxPack : Pack → Pack → ℕ → ℕ → Pack
+aauxPack source asc q a = pairAt (asAt q) source asc a
 
 -- ---- what is judged
 

@@ -4,4 +4,5 @@ pub mod Subcode
 pub mod TimeCode
 pub mod Vaux
 pub mod Aaux
+pub mod Repeated
 pub mod InBytes

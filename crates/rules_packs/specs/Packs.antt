@@ -1,7 +1,9 @@
 -- Packs of five bytes (document 01, "Inside the blocks").
 use mathlib.Core.List.{List, [], _∷_}
 use Prim.Native.Nat.{ℕ, _+_}
+use lib.Dec.{eqb}
 use lib.ListN.{getD}
+use Rattle.base.specs.Pick.{pick}
 use Rattle.paper.specs.declared.Pack.{Pack}
 
 -- the pack that stands in a block from byte `at` on
@@ -32,3 +34,7 @@ onesAfter header = record { pc0 = header; pc1 = 0xFF; pc2 = 0xFF; pc3 = 0xFF; pc
 
 abbrev pub noPack : Pack
 noPack = onesAfter 0xFF
+
+-- pack k of a row where a source pack is number `at`, its control pack "follows", and no other is
+unfoldable pub pairAt : ℕ → Pack → Pack → ℕ → Pack
+pairAt at source control k = pick (eqb k at) source (pick (eqb k (at + 1)) control noPack)

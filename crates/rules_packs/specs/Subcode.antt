@@ -8,6 +8,7 @@ use Rattle.base.specs.Pick.{pick}
 use Rattle.base.specs.Run.{run}
 use Rattle.paper.specs.declared.System.{System}
 use Rattle.paper.specs.declared.Pack.{Pack}
+use Rattle.paper.specs.declared.SubcodeData.{SubcodeData}
 use Rattle.paper.specs.declared.SubcodePack.{SubcodePack}
 use Rattle.paper.specs.declared.SubcodePack.the-variants.{TimeCode, BinaryGroup, NoPack}
 use Rattle.rules_format.specs.Systems.{halfOf}
@@ -39,16 +40,16 @@ abbrev pub frByte : Bool → ℕ
 frByte first = pick first 0xFF 0x7F
 
 -- the eight bytes of SSYB k: "ID0 .., ID1 (low nibble the SSYB number), FFh, a 5-byte pack"
-unfoldable pub ssyb : Bool → Pack → Pack → ℕ → List ℕ
-ssyb first time group k = frByte first ∷ (0xF0 + k) ∷ 0xFF ∷ packBytes (subcodePack (kindOf first k) time group)
+unfoldable pub ssyb : Bool → SubcodeData → ℕ → List ℕ
+ssyb first said k = frByte first ∷ (0xF0 + k) ∷ 0xFF ∷ packBytes (subcodePack (kindOf first k) (said .time) (said .group))
 
 -- those of SC(k): "SSYB 0-5 in SC0, 6-11 in SC1, eight bytes each from byte 3"
-unfoldable pub ssybs : Bool → Pack → Pack → ℕ → List ℕ
-ssybs first time group k = run (λ (j : ℕ). ssyb first time group (6 * k + j)) 6
+unfoldable pub ssybs : Bool → SubcodeData → ℕ → List ℕ
+ssybs first said k = run (λ (j : ℕ). ssyb first said (6 * k + j)) 6
 
 -- bytes 3 to 79 of SC(k)
-unfoldable pub subcodeBytes : Bool → Pack → Pack → ℕ → List ℕ
-subcodeBytes first time group k = ssybs first time group k ++ replicate 29 0xFF
+unfoldable pub subcodeBytes : Bool → SubcodeData → ℕ → List ℕ
+subcodeBytes first said k = ssybs first said k ++ replicate 29 0xFF
 
 -- ---- what is read
 

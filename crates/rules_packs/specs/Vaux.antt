@@ -9,7 +9,7 @@ use Rattle.base.specs.Run.{run}
 use Rattle.paper.specs.declared.System.{System}
 use Rattle.paper.specs.declared.Pack.{Pack}
 use Rattle.rules_format.specs.Systems.{rateOf, stypeOf}
-use Rattle.rules_packs.specs.Packs.{packIn, packBytes, onesAfter, noPack}
+use Rattle.rules_packs.specs.Packs.{packIn, packBytes, onesAfter, pairAt}
 
 -- "VS is pack 39 in even sequences, 0 in odd"
 unfoldable pub vsAt : ℕ → ℕ
@@ -26,16 +26,16 @@ abbrev pub vscPack : Pack
 vscPack = onesAfter 0x61
 
 -- pack k of the 45: "VSC follows it"
-unfoldable pub vauxPack : System → ℕ → ℕ → Pack
-vauxPack y q k = pick (eqb k (vsAt q)) (vsPack y) (pick (eqb k (vsAt q + 1)) vscPack noPack)
+abbrev pub vauxPack : Pack → Pack → ℕ → ℕ → Pack
+vauxPack vs vsc q k = pairAt (vsAt q) vs vsc k
 
 -- those of VA(k): "45 packs, 15 to a block, five bytes each from byte 3"
-unfoldable pub vauxPacks : System → ℕ → ℕ → List ℕ
-vauxPacks y q k = run (λ (j : ℕ). packBytes (vauxPack y q (15 * k + j))) 15
+unfoldable pub vauxPacks : Pack → Pack → ℕ → ℕ → List ℕ
+vauxPacks vs vsc q k = run (λ (j : ℕ). packBytes (vauxPack vs vsc q (15 * k + j))) 15
 
 -- bytes 3 to 79 of VA(k)
-unfoldable pub vauxBytes : System → ℕ → ℕ → List ℕ
-vauxBytes y q k = vauxPacks y q k ++ 0xFF ∷ 0xFF ∷ []
+unfoldable pub vauxBytes : Pack → Pack → ℕ → ℕ → List ℕ
+vauxBytes vs vsc q k = vauxPacks vs vsc q k ++ 0xFF ∷ 0xFF ∷ []
 
 -- ---- what is judged
 

@@ -16,21 +16,23 @@ use Rattle.paper.specs.declared.SystemNumber.the-variants.{Known}
 use Rattle.paper.specs.declared.Section.{Section}
 use Rattle.paper.specs.declared.Section.the-variants.{Header, Subcode, Vaux, Audio, Video}
 use Rattle.paper.specs.declared.Pack.{Pack}
+use Rattle.paper.specs.declared.SubcodeData.{SubcodeData}
 use Rattle.rules_format.specs.Systems.{sequencesOf, halfOf, positionsOf, isCount, systemOf}
 use Rattle.rules_format.specs.Places.{blocksOf, placeIn, entryAt, place}
 use Rattle.rules_format.specs.Ids.{idBytes, idOf}
 use Rattle.rules_format.specs.Blocks.{startOf, blockAt}
-use Rattle.rules_packs.specs.Packs.{packBytes, fourBytes}
+use Rattle.rules_packs.specs.Packs.{packBytes, fourBytes, pairAt}
 use Rattle.rules_packs.specs.TimeCode.{timePack, groupPack, timeTaken}
+use Rattle.rules_packs.specs.Repeated.{subcodeOf}
 use Rattle.rules_packs.specs.Subcode.{isFirst, kindOf, ssyb, ssybs, subcodeBytes}
-use Rattle.rules_packs.specs.Vaux.{vauxPack, vauxPacks, vauxBytes}
+use Rattle.rules_packs.specs.Vaux.{vsPack, vscPack, vauxPack, vauxPacks, vauxBytes}
 use Rattle.rules_packs.specs.Aaux
-use Rattle.rules_packs.specs.Aaux.{asAt, sizeOf, countOf, aauxPack}
+use Rattle.rules_packs.specs.Aaux.{asAt, sizeOf, countOf, ascPack, aauxPack}
 use Rattle.rules_format.specs.Sound.{audioAt}
 use Rattle.rules_picture.specs.Picture.{slot}
 use Rattle.promises.specs.Contents.{Contents}
-use Rattle.rules_writes.specs.Written.{storedWord, audioBytes, payload, entryBlock, writtenBlock, writtenFrame}
-use Rattle.rules_writes.specs.Write.{Takes, Wrote}
+use Rattle.rules_writes.specs.Written.{audioBytes, payload, entryBlock, writtenBlock}
+use Rattle.rules_writes.specs.Write.{material, writtenFrame, storedWord, Takes, Wrote}
 use Rattle.paper.specs.Bytes.{ssybForm, aauxForm, sizeForm, OwnCount, headerForm, vauxForm}
 use Rattle.promises.specs.Form.{timeBytes, groupBytes, cut, idForm, HasForm}
 use Rattle.rules_packs.proofs.Written.{header-form, vaux-form, ssyb-form, aaux-form, four-again}
@@ -91,6 +93,9 @@ module _ (k : ℕ) (y : System) (known : systemOf k ≡ Known y) (l : Contents) 
   abbrev group : Pack
   group = groupPack (l .binaryGroup)
 
+  abbrev said : SubcodeData
+  said = subcodeOf (l .timeCode) (l .binaryGroup)
+
   abbrev is : Columns k y
   is = columns k y known
 
@@ -116,10 +121,10 @@ module _ (k : ℕ) (y : System) (known : systemOf k ≡ Known y) (l : Contents) 
       unfolding w
       behind-written =
           let behind = frame-payload y l h q s b hh hq hb in
-          cut-is h q (placeIn s b) 3 77 (omega arith) ∙ take-all 77 (drop 3 block) (omega (arith, payload-length y l h q s b, ap length behind))
+          cut-is h q (placeIn s b) 3 77 (omega arith) ∙ take-all 77 (drop 3 block) (omega (arith, payload-length y (material y l) h q s b, ap length behind))
 
       -- those from byte a on
-      rest-written : (a n : ℕ) (rest : List ℕ) → drop a (payload y l h q s b) ≡ rest → length rest ≤ n → 3 + a + n ≤ 80 → cut k w h q (placeIn s b) (3 + a) n ≡ rest
+      rest-written : (a n : ℕ) (rest : List ℕ) → drop a (payload y (material y l) h q s b) ≡ rest → length rest ≤ n → 3 + a + n ≤ 80 → cut k w h q (placeIn s b) (3 + a) n ≡ rest
       unfolding w
       rest-written a n rest e long room =
           cut-is h q (placeIn s b) (3 + a) n room
@@ -127,7 +132,7 @@ module _ (k : ℕ) (y : System) (known : systemOf k ≡ Known y) (l : Contents) 
           ∙ take-all n rest long
 
       -- part j of a run
-      run-written : (u m : ℕ) (g : ℕ → List ℕ) (rest : List ℕ) → Wide u g → payload y l h q s b ≡ run g m ++ rest → (j a : ℕ) → j < m → a ≡ 3 + j * u → a + u ≤ 80
+      run-written : (u m : ℕ) (g : ℕ → List ℕ) (rest : List ℕ) → Wide u g → payload y (material y l) h q s b ≡ run g m ++ rest → (j a : ℕ) → j < m → a ≡ 3 + j * u → a + u ≤ 80
           → cut k w h q (placeIn s b) a u ≡ g j
       unfolding w
       run-written u m g rest wide e j a hj at room =
@@ -141,37 +146,37 @@ module _ (k : ℕ) (y : System) (known : systemOf k ≡ Known y) (l : Contents) 
 
     -- ---- subcode
 
-    ssyb-written : (j : ℕ) → j < 12 → cut k w h q (1 + j / 6) (3 + 8 * (j % 6)) 8 ≡ ssyb (isFirst y q) time group j
+    ssyb-written : (j : ℕ) → j < 12 → cut k w h q (1 + j / 6) (3 + 8 * (j % 6)) 8 ≡ ssyb (isFirst y q) said j
     unfolding payload subcodeBytes ssybs
     ssyb-written j hj =
-        let six : ℕ → List ℕ = λ i. ssyb (isFirst y q) time group (6 * (j / 6) + i) in
+        let six : ℕ → List ℕ = λ i. ssyb (isFirst y q) said (6 * (j / 6) + i) in
         let n : 6 * (j / 6) + j % 6 ≡ j = omega arith in
-        run-written Subcode (j / 6) (omega arith) 8 6 six (replicate 29 0xFF) (λ i. ssyb-length time group (6 * (j / 6) + i) (isFirst y q)) refl
+        run-written Subcode (j / 6) (omega arith) 8 6 six (replicate 29 0xFF) (λ i. ssyb-length said (6 * (j / 6) + i) (isFirst y q)) refl
         (j % 6) (3 + 8 * (j % 6)) (omega arith) (omega arith) (omega arith)
-        ∙ ap (ssyb (isFirst y q) time group) n
+        ∙ ap (ssyb (isFirst y q) said) n
 
     subcode-ones-written : (j : ℕ) → j < 2 → cut k w h q (1 + j) 51 29 ≡ replicate 29 0xFF
     unfolding payload
-    subcode-ones-written j hj = rest-written Subcode j hj 48 29 (replicate 29 0xFF) (subcode-rest (isFirst y q) time group j) (omega arith) (omega arith)
+    subcode-ones-written j hj = rest-written Subcode j hj 48 29 (replicate 29 0xFF) (subcode-rest (isFirst y q) said j) (omega arith) (omega arith)
 
     -- ---- VAUX
 
     vaux-written : (j : ℕ) → j < 45 → cut k w h q (3 + j / 15) (3 + 5 * (j % 15)) 5 ≡ vauxForm k q j
     unfolding payload vauxBytes vauxPacks
     vaux-written j hj =
-        let fifteen : ℕ → List ℕ = λ i. packBytes (vauxPack y q (15 * (j / 15) + i)) in
+        let fifteen : ℕ → List ℕ = λ i. packBytes (vauxPack (vsPack y) vscPack q (15 * (j / 15) + i)) in
         let n : 15 * (j / 15) + j % 15 ≡ j = omega arith in
         run-written Vaux (j / 15) (omega arith) 5 15 fifteen (0xFF ∷ 0xFF ∷ []) (λ i. refl) refl (j % 15) (3 + 5 * (j % 15)) (omega arith) (omega arith) (omega arith)
-        ∙ ap (λ (i : ℕ). packBytes (vauxPack y q i)) n
+        ∙ ap (λ (i : ℕ). packBytes (vauxPack (vsPack y) vscPack q i)) n
         ∙ sym (vaux-form k y known q j)
 
     vaux-ones-written : (j : ℕ) → j < 3 → cut k w h q (3 + j) 78 2 ≡ replicate 2 0xFF
     unfolding payload
-    vaux-ones-written j hj = rest-written Vaux j hj 75 2 (replicate 2 0xFF) (vaux-rest y q j) (omega arith) (omega arith)
+    vaux-ones-written j hj = rest-written Vaux j hj 75 2 (replicate 2 0xFF) (vaux-rest (vsPack y) vscPack q j) (omega arith) (omega arith)
 
     -- ---- AAUX
 
-    aaux-written : (a : ℕ) → a < 9 → cut k w h q (6 + 16 * a) 3 5 ≡ packBytes (aauxPack y (l .count) (audioAt (halfOf y) h q) q a)
+    aaux-written : (a : ℕ) → a < 9 → cut k w h q (6 + 16 * a) 3 5 ≡ packBytes (aauxPack (Aaux.asPack y (l .count) (audioAt (halfOf y) h q)) ascPack q a)
     unfolding w payload audioBytes
     aaux-written a ha = cut-is h q (6 + 16 * a) 3 5 (omega arith) ∙ ap (take 5) (frame-payload y l h q Audio a hh hq ha)
 
@@ -194,7 +199,7 @@ module _ (k : ℕ) (y : System) (known : systemOf k ≡ Known y) (l : Contents) 
       ∙ rw first refl
 
   size-first : byteAt (sequences k) w 0 0 54 4 ≡ sizeForm (l .count)
-  unfolding aauxPack asAt Aaux.asPack pick sizeForm sizeOf
+  unfolding pairAt asAt Aaux.asPack pick sizeForm sizeOf
   size-first = cut-byte (sequences k) w 0 0 54 3 5 1 (omega arith) ∙ ap (λ (b : List ℕ). getD b 1 0) (aaux-written 0 0 (omega arith) (sequences-some y) 3 (omega arith))
 
   -- ---- sound

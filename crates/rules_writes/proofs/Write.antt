@@ -17,8 +17,7 @@ use Rattle.rules_format.specs.Systems.{sequencesOf, isCount, systemOf}
 use Rattle.rules_packs.specs.TimeCode.{timePack, timeTaken}
 use Rattle.rules_format.specs.Samples.{allInRange}
 use Rattle.promises.specs.Contents.{Contents}
-use Rattle.rules_writes.specs.Written.{writtenFrame}
-use Rattle.rules_writes.specs.Write.{contentsOf, lengthsOk, writeNumber, writeLeft, Wrote, Takes}
+use Rattle.rules_writes.specs.Write.{contentsOf, lengthsOk, writeNumber, writtenFrame, writeLeft, Wrote, Takes}
 
 -- ---- contentsOf: by the writer's parameters in their order
 

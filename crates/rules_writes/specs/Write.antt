@@ -8,12 +8,14 @@ use lib.IntN.{ℤ}
 use lib.ListN.{length}
 use Rattle.base.specs.Calls.{firstOf, _when_}
 use Rattle.base.specs.Pick.{pick}
+use Rattle.base.specs.Run.{run}
 use Rattle.paper.specs.declared.System.{System}
 use Rattle.rules_format.specs.Systems.{sequencesOf, isCount, macroblocksOf, inSystem, systemOf, isNoSystem, passes, frameBytes}
 use Rattle.rules_packs.specs.TimeCode.{timePack, timeTaken}
+use Rattle.rules_packs.specs.Repeated.{repeatedOf}
 use Rattle.rules_format.specs.Samples.{allInRange}
 use Rattle.promises.specs.Contents.{Contents}
-use Rattle.rules_writes.specs.Written.{writtenFrame}
+use Rattle.rules_writes.specs.Written.{samplesOf, sampleWord, Material, materialOf, writtenChannel}
 
 abbrev pub contentsOf : ℕ → List ℤ → List ℕ → List ℕ → List ℕ → Contents
 contentsOf count sound macroblocks time group = record { count = count; sound = sound; macroblocks = macroblocks; timeCode = time; binaryGroup = group }
@@ -21,12 +23,15 @@ contentsOf count sound macroblocks time group = record { count = count; sound = 
 -- ---- the refusals in their order: "the writer 1-4, 31, 32"
 
 -- "eight times the one count for sound .., 77 bytes a macroblock .., 4 each for time code and binary group"
+abbrev pub lengthsFit : System → ℕ → List ℤ → List ℕ → List ℕ → List ℕ → Bool
+lengthsFit y count sound macroblocks time group =
+    eqb (length sound) (8 * count)
+    && eqb (length macroblocks) (77 * macroblocksOf y)
+    && eqb (length time) 4
+    && eqb (length group) 4
+
 abbrev pub lengthsOk : Contents → System → Bool
-lengthsOk l y =
-    eqb (length (l .sound)) (8 * l .count)
-    && eqb (length (l .macroblocks)) (77 * macroblocksOf y)
-    && eqb (length (l .timeCode)) 4
-    && eqb (length (l .binaryGroup)) 4
+lengthsOk l y = lengthsFit y (l .count) (l .sound) (l .macroblocks) (l .timeCode) (l .binaryGroup)
 
 abbrev pub countOk : Contents → System → Bool
 countOk l y = isCount y (l .count)
@@ -44,8 +49,20 @@ writeNumber k l size = firstOf (
     ∷ 32 when not (passes (clockTaken l) (systemOf k))
     ∷ [])
 
--- ---- the frame: "A refusal .. writes nothing."
+-- ---- the frame: a run of DIF channels
 
+-- what is lent, as the material of a frame
+abbrev pub material : System → Contents → Material
+material y l = materialOf (repeatedOf y (l .timeCode) (l .binaryGroup)) (l .count) (l .sound) (l .macroblocks)
+
+unfoldable pub writtenFrame : System → Contents → List ℕ
+writtenFrame y l = run (writtenChannel y (material y l)) 4
+
+-- the word of position t of audio channel c
+abbrev pub storedWord : Contents → ℕ → ℕ → ℕ
+storedWord l c t = sampleWord (samplesOf (l .count) (l .sound) c) t
+
+-- "A refusal .. writes nothing."
 unfoldable pub writeLeft : ℕ → Contents → List ℕ → List ℕ
 writeLeft k l frame = pick (eqb (writeNumber k l (length frame)) 0) (inSystem frame (λ (y : System). writtenFrame y l) (systemOf k)) frame
 

@@ -1,16 +1,17 @@
--- What a written frame holds, block by block in stream order, of what the writer was given.
+-- What a written frame holds, block by block in stream order. Each payload is told what it says, and no more.
 use mathlib.Core.List.{List, _++_}
 use Prim.Native.Nat.{ℕ, _+_, _-_, _*_}
 use lib.Dec.{ltb}
-use lib.IntN.{pos}
-use lib.ListN.{getD, replicate}
+use lib.IntN.{ℤ, pos}
+use lib.ListN.{length, take, drop, getD, replicate}
 use Rattle.base.specs.Pick.{pick}
 use Rattle.base.specs.Run.{run, tab}
-use Rattle.promises.specs.Contents.{Contents}
 use Rattle.paper.specs.declared.System.{System}
 use Rattle.paper.specs.declared.Section.{Section}
 use Rattle.paper.specs.declared.Section.the-variants.{Header, Subcode, Vaux, Audio, Video}
 use Rattle.paper.specs.declared.Entry.{Entry}
+use Rattle.paper.specs.declared.Pack.{Pack}
+use Rattle.paper.specs.declared.Repeated.{Repeated}
 use Rattle.paper.specs.declared.Carried.{Carried}
 use Rattle.paper.specs.declared.Carried.the-variants.{Macroblock, Nothing}
 use Rattle.rules_format.specs.Systems.{sequencesOf, halfOf}
@@ -18,26 +19,29 @@ use Rattle.rules_format.specs.Places.{place, entryAt}
 use Rattle.rules_format.specs.Ids.{idBytes, idOf}
 use Rattle.rules_packs.specs.Packs.{packBytes}
 use Rattle.rules_packs.specs.Header.{headerBytes}
-use Rattle.rules_packs.specs.TimeCode.{timePack, groupPack}
 use Rattle.rules_packs.specs.Subcode.{isFirst, subcodeBytes}
 use Rattle.rules_packs.specs.Vaux.{vauxBytes}
-use Rattle.rules_packs.specs.Aaux.{aauxPack}
+use Rattle.rules_packs.specs.Aaux.{asPack, aauxPack}
 use Rattle.rules_format.specs.Samples.{wordFor, bytesOf}
 use Rattle.rules_format.specs.Sound.{audioAt, rankAt, sampleAt}
 use Rattle.rules_picture.specs.Picture.{slot, carriedIn}
 
 -- ---- sound: "Positions from the count on are written 0"
 
--- the word of position t of audio channel c; sound is lent channel after channel
-unfoldable pub storedWord : Contents → ℕ → ℕ → ℕ
-storedWord l c t = pick (ltb t (l .count)) (wordFor (getD (l .sound) ((c - 1) * l .count + t) (pos 0))) 0
+-- the samples of audio channel c; sound is lent channel after channel
+unfoldable pub samplesOf : ℕ → List ℤ → ℕ → List ℤ
+samplesOf count sound c = take count (drop ((c - 1) * count) sound)
 
--- the two bytes of word w of audio block a
-unfoldable pub wordBytes : System → Contents → ℕ → ℕ → ℕ → ℕ → List ℕ
-wordBytes y l h q a w = bytesOf (storedWord l (audioAt (halfOf y) h q) (sampleAt (halfOf y) (rankAt (halfOf y) q) a w))
+-- the word of position t of an audio channel
+unfoldable pub sampleWord : List ℤ → ℕ → ℕ
+sampleWord samples t = pick (ltb t (length samples)) (wordFor (getD samples t (pos 0))) 0
 
-unfoldable pub audioBytes : System → Contents → ℕ → ℕ → ℕ → List ℕ
-audioBytes y l h q a = packBytes (aauxPack y (l .count) (audioAt (halfOf y) h q) q a) ++ run (wordBytes y l h q a) 36
+-- the two bytes of word w of A(a) in sequence q
+unfoldable pub wordBytes : System → List ℤ → ℕ → ℕ → ℕ → List ℕ
+wordBytes y samples q a w = bytesOf (sampleWord samples (sampleAt (halfOf y) (rankAt (halfOf y) q) a w))
+
+unfoldable pub audioBytes : System → Pack → Pack → List ℤ → ℕ → ℕ → List ℕ
+audioBytes y source asc samples q a = packBytes (aauxPack source asc q a) ++ run (wordBytes y samples q a) 36
 
 -- ---- picture: 77 bytes a macroblock in number order; a slot that carries none has "payload FFh"
 
@@ -45,30 +49,41 @@ unfoldable pub carriedBytes : List ℕ → Carried → List ℕ
 carriedBytes macroblocks (Macroblock b) = tab (λ (i : ℕ). getD macroblocks (77 * b + i) 0) 77
 carriedBytes macroblocks Nothing = replicate 77 0xFF
 
-unfoldable pub videoBytes : System → Contents → ℕ → ℕ → ℕ → List ℕ
-videoBytes y l h q v = carriedBytes (l .macroblocks) (carriedIn y (slot h q v))
+unfoldable pub videoBytes : System → List ℕ → ℕ → ℕ → ℕ → List ℕ
+videoBytes y macroblocks h q v = carriedBytes macroblocks (carriedIn y (slot h q v))
 
--- ---- the frame: a run of DIF channels, each of sequences, each of 150 blocks, each an ID and 77 bytes
+-- ---- what a frame is made of: what its sequences repeat, and the sound and picture that is shared out to them
 
-unfoldable pub payload : System → Contents → ℕ → ℕ → Section → ℕ → List ℕ
-payload y l h q Header k = headerBytes y
-payload y l h q Subcode k = subcodeBytes (isFirst y q) (timePack (l .timeCode)) (groupPack (l .binaryGroup)) k
-payload y l h q Vaux k = vauxBytes y q k
-payload y l h q Audio a = audioBytes y l h q a
-payload y l h q Video v = videoBytes y l h q v
+pub record Material : Type 0 where
+  pub repeated : Repeated
+  pub count : ℕ
+  pub sound : List ℤ
+  pub macroblocks : List ℕ
+
+abbrev pub materialOf : Repeated → ℕ → List ℤ → List ℕ → Material
+materialOf repeated count sound macroblocks = record { repeated = repeated; count = count; sound = sound; macroblocks = macroblocks }
+
+-- ---- a DIF channel: a run of sequences, each of 150 blocks, each an ID and 77 bytes
+
+unfoldable pub payload : System → Material → ℕ → ℕ → Section → ℕ → List ℕ
+payload y m h q Header k = headerBytes y
+payload y m h q Subcode k = subcodeBytes (isFirst y q) (m .repeated .subcode) k
+payload y m h q Vaux k = vauxBytes (m .repeated .vs) (m .repeated .vsc) q k
+payload y m h q Audio a = audioBytes y (asPack y (m .count) c) (m .repeated .asc) (samplesOf (m .count) (m .sound) c) q a
+  where
+    c : ℕ
+    c = audioAt (halfOf y) h q
+payload y m h q Video v = videoBytes y (m .macroblocks) h q v
 
 -- the block of entry e
-unfoldable pub entryBlock : System → Contents → ℕ → ℕ → Entry → List ℕ
-entryBlock y l h q e = idBytes (idOf h q (e .section) (e .number .0)) ++ payload y l h q (e .section) (e .number .0)
+unfoldable pub entryBlock : System → Material → ℕ → ℕ → Entry → List ℕ
+entryBlock y m h q e = idBytes (idOf h q (e .section) (e .number .0)) ++ payload y m h q (e .section) (e .number .0)
 
-unfoldable pub writtenBlock : System → Contents → ℕ → ℕ → ℕ → List ℕ
-writtenBlock y l h q p = entryBlock y l h q (entryAt (place p))
+unfoldable pub writtenBlock : System → Material → ℕ → ℕ → ℕ → List ℕ
+writtenBlock y m h q p = entryBlock y m h q (entryAt (place p))
 
-unfoldable pub writtenSequence : System → Contents → ℕ → ℕ → List ℕ
-writtenSequence y l h q = run (writtenBlock y l h q) 150
+unfoldable pub writtenSequence : System → Material → ℕ → ℕ → List ℕ
+writtenSequence y m h q = run (writtenBlock y m h q) 150
 
-unfoldable pub writtenChannel : System → Contents → ℕ → List ℕ
-writtenChannel y l h = run (writtenSequence y l h) (sequencesOf y)
-
-unfoldable pub writtenFrame : System → Contents → List ℕ
-writtenFrame y l = run (writtenChannel y l) 4
+unfoldable pub writtenChannel : System → Material → ℕ → List ℕ
+writtenChannel y m h = run (writtenSequence y m h) (sequencesOf y)

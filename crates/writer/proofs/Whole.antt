@@ -1,22 +1,22 @@
--- Each way out of the writers of a block, a sequence, a DIF channel and the frame, and of the call. Assumes nothing.
+-- Each way out of the writers of a sequence, a DIF channel and the frame, and of the call. Assumes nothing.
 use mathlib.Core.Path.{_≡_, refl, sym, ap, ap₂, _∙_, subst}
 use mathlib.Core.Bool.{Bool, true}
 use mathlib.Core.List.{List, [], _++_, append-nil, append-assoc}
-use Prim.Native.Nat.{ℕ, _+_, _-_, _*_, _≤_, _<_}
+use Prim.Native.Nat.{ℕ, _+_, _-_, _*_, _/_, _%_, _≤_, _<_}
 use native.Mathlib.Omega.{arith}
 use lib.Dec.{eqb, ltb}
 use lib.IntN.{ℤ}
-use lib.ListN.{length, take, drop, drop-of-length-le, length-append, length-drop}
-use lib.Seq.{take-at, drop-at, drop-drop, take-all, length-take-le}
+use lib.ListN.{length, take, drop, drop-of-length-le, length-append, length-drop, take-append-drop}
+use lib.Seq.{take-at, drop-at, drop-drop, take-append-add, drop-append-add, length-take-le}
 use mir.Syntax.{w32, w64}
 use mir.Val.{Fits}
-use borrow.Author.Tests.{eq-eqb, lt-ltb}
+use borrow.Author.Tests.{eq-eqb, lt-ltb, le-leb}
 use borrow.Rule.Slice.PartMut.{putMid, postOf}
 use Rattle.base.specs.Pick.{pick}
-use Rattle.base.specs.Run.{run}
+use Rattle.base.specs.Run.{run, Wide}
 use Rattle.base.proofs.Cases.{by-lt}
 use Rattle.base.proofs.Picks.{pick-true}
-use Rattle.base.proofs.Runs.{end-within, run-zero, run-more, run-same, run-split, length-run}
+use Rattle.base.proofs.Runs.{end-within, run-same, run-split, run-runs, length-run}
 use Rattle.base.proofs.Filling.{Filled, filled-none, filled-next, filled-end}
 use Rattle.base.proofs.Parts.{length-part, range-part}
 use Rattle.paper.specs.declared.System.{System}
@@ -24,273 +24,355 @@ use Rattle.paper.specs.declared.SystemNumber.{SystemNumber}
 use Rattle.paper.specs.declared.SystemNumber.the-variants.{Known, NoSystem}
 use Rattle.paper.specs.declared.Section.{Section}
 use Rattle.paper.specs.declared.Section.the-variants.{Header, Subcode, Vaux, Audio, Video}
-use Rattle.paper.specs.declared.BlockNumber.{BlockNumber}
 use Rattle.paper.specs.declared.Place.{Place}
 use Rattle.paper.specs.declared.Entry.{Entry}
 use Rattle.paper.specs.declared.BlockId.{BlockId}
+use Rattle.paper.specs.declared.Pack.{Pack}
+use Rattle.paper.specs.declared.SubcodeData.{SubcodeData}
+use Rattle.paper.specs.declared.Repeated.{Repeated}
 use Rattle.rules_format.specs.Systems.{sequencesOf, halfOf, systemOf}
-use Rattle.rules_format.specs.Places.{blocksOf, place, block, entryAt, placeIn, placeFor}
+use Rattle.rules_format.specs.Places.{blocksOf, place, entryAt, placeIn, placeFor}
 use Rattle.rules_format.specs.Ids.{idBytes, idOf}
+use Rattle.rules_format.specs.Sound.{audioAt}
 use Rattle.rules_packs.specs.Header.{headerBytes}
-use Rattle.rules_packs.specs.TimeCode.{timePack, groupPack}
-use Rattle.rules_packs.specs.Subcode.{subcodeBytes}
+use Rattle.rules_packs.specs.Subcode.{isFirst, subcodeBytes}
 use Rattle.rules_packs.specs.Vaux.{vauxBytes}
-use Rattle.rules_picture.specs.Picture.{slot, carriedIn}
+use Rattle.rules_packs.specs.Aaux.{asPack}
+use Rattle.rules_packs.specs.Repeated.{repeatedOf}
 use Rattle.promises.specs.Contents.{Contents}
-use Rattle.rules_writes.specs.Written.{audioBytes, carriedBytes, videoBytes, payload, entryBlock, writtenBlock, writtenSequence, writtenChannel, writtenFrame}
-use Rattle.rules_writes.specs.Write.{contentsOf, writeNumber, Wrote}
-use Rattle.rules_format.proofs.Systems.{sequences-le}
-use Rattle.rules_format.proofs.Places.{place-in-below, entry-place-in, place-for, place-for-past}
-use Rattle.rules_writes.proofs.Written.{entry-block-length, block-entry, block-wide, sequence-wide, channel-wide}
+use Rattle.rules_writes.specs.Written.{samplesOf, audioBytes, videoBytes, Material, materialOf, payload, writtenBlock, writtenSequence, writtenChannel}
+use Rattle.rules_writes.specs.Write.{contentsOf, writtenFrame, writeNumber, Wrote}
+use Rattle.rules_format.proofs.Systems.{sequences-le, half-cases, half-twice, count-below, count-turns, positions-le}
+use Rattle.rules_format.proofs.Places.{entry-place-in, place-for, place-for-past}
+use Rattle.rules_format.proofs.Sound.{Half, audio-within}
+use Rattle.rules_packs.proofs.Packs.{header-length}
+use Rattle.rules_packs.proofs.Subcode.{subcode-length}
+use Rattle.rules_packs.proofs.Vaux.{vaux-length}
+use Rattle.rules_writes.proofs.Written
+use Rattle.rules_writes.proofs.Written.{audio-length, video-length, block-entry, sequence-wide, channel-wide, samples-end, samples-length}
 use Rattle.rules_writes.proofs.Write.{write-1, taken-takes, write-stopped, write-done}
 use Rattle.blocks.specs.Fits.{numberFits, audioFits, videoFits}
-use Rattle.writer.specs.Asked.{PartAsked, Begun, BankAsked, VideosAsked, ChannelPartAsked, FrameAsked}
-use Rattle.writer.specs.Banks.{videoBlocks, bankBlocks}
+use Rattle.writer.specs.Asked.{ChannelAsked, SamplesAsked, VideosAsked, BanksAsked, BankAsked, SequenceAsked, ChannelPartAsked, FrameAsked}
+use Rattle.writer.specs.Blocks.{blockOf, firstBlocks, headBlocks, videoBlocks, bankBlocks}
 
--- ---- two parts that are lent one after the other
+-- ---- parts that are lent one after the other
+
+-- nothing is left of a list after its length
+none-left : (n : ℕ) (xs : List ℕ) → length xs ≡ n → drop n xs ≡ []
+none-left n xs e = drop-of-length-le xs {i = n} (omega arith)
+
+-- a part behind the first n
+behind-first : (n m : ℕ) (zs rs xs : List ℕ) → length zs ≡ n → putMid n m (zs ++ drop n xs) rs ≡ zs ++ (rs ++ drop (n + m) xs)
+behind-first n m zs rs xs ez = rw (take-at zs (drop n xs) n ez, drop-at zs (drop n xs) n ez, drop-drop m n xs) refl
 
 two-parts : (n m : ℕ) (zs rs xs : List ℕ) → length zs ≡ n → length xs ≡ n + m → putMid n m (zs ++ postOf 0 n xs) rs ≡ zs ++ rs
-two-parts n m zs rs xs ez ex =
-    let rest : drop m (drop n xs) ≡ [] = drop-drop m n xs ∙ drop-of-length-le xs {i = n + m} (omega (arith, ex)) in
-    rw (take-at zs (drop n xs) n ez, drop-at zs (drop n xs) n ez, rest, append-nil) refl
+two-parts n m zs rs xs ez ex = behind-first n m zs rs xs ez ∙ rw (none-left (n + m) xs ex, append-nil) refl
 
--- ---- what fits is written
+three-parts : (n m o : ℕ) (zs rs vs xs : List ℕ) → length zs ≡ n → length rs ≡ m → length xs ≡ n + m + o
+    → putMid (n + m) o (putMid n m (zs ++ postOf 0 n xs) rs) vs ≡ zs ++ (rs ++ vs)
+three-parts n m o zs rs vs xs ez er ex =
+    let both : length (zs ++ rs) ≡ n + m = length-append zs rs ∙ omega arith in
+    ap (λ (l : List ℕ). putMid (n + m) o l vs) (behind-first n m zs rs xs ez ∙ sym (append-assoc zs rs (drop (n + m) xs)))
+    ∙ behind-first (n + m) o (zs ++ rs) vs xs both
+    ∙ rw (none-left (n + m + o) xs ex, append-nil, append-assoc) refl
 
+-- the part of m bytes from byte a on
+part-long : (xs : List ℕ) (a m : ℕ) → a + m ≤ length xs → length (take (a + m - a) (drop a xs)) ≡ m
+part-long xs a m l = ap length (range-part a m xs) ∙ length-part a m xs l
+
+-- what is filled part by part behind its first o bytes
+abbrev pub FilledFrom : ℕ → ℕ → (ℕ → List ℕ) → ℕ → List ℕ → List ℕ → Type 0
+FilledFrom o w f k before now = now ≡ take o before ++ (run f k ++ drop (k * w) (drop o before))
+
+put-behind : (hs ys zs : List ℕ) (n m : ℕ) → putMid (length hs + n) m (hs ++ ys) zs ≡ hs ++ putMid n m ys zs
+put-behind hs ys zs n m = rw (take-append-add hs ys n, drop-append-add hs ys n) (append-assoc hs (take n ys) (zs ++ drop m (drop n ys)))
+
+pub from-none : (o w : ℕ) (f : ℕ → List ℕ) (d : List ℕ) → FilledFrom o w f 0 d d
+from-none o w f d = sym (take-append-drop o d) ∙ ap (λ (l : List ℕ). take o d ++ l) (filled-none w f (drop o d))
+
+module _ (o w : ℕ) (f : ℕ → List ℕ) (wide : Wide w f) (k : ℕ) (d xs ys : List ℕ) (room : o ≤ length d) (ex : FilledFrom o w f k d xs) where
+  from-next : (at : ℕ) → at ≡ o + k * w → ys ≡ f k → FilledFrom o w f (k + 1) d (putMid at (at + w - at) xs ys)
+  from-next at e ey =
+      let long : length (take o d) ≡ o = length-take-le o d room in
+      let start : at ≡ length (take o d) + k * w = e ∙ ap (λ (n : ℕ). n + k * w) (sym long) in
+      let wide′ : at + w - at ≡ k * w + w - k * w = omega arith in
+      ap (λ (l : List ℕ). putMid at (at + w - at) l ys) ex
+      ∙ ap₂ (λ (a m : ℕ). putMid a m (take o d ++ (run f k ++ drop (k * w) (drop o d))) ys) start wide′
+      ∙ put-behind (take o d) (run f k ++ drop (k * w) (drop o d)) ys (k * w) (k * w + w - k * w)
+      ∙ ap (λ (l : List ℕ). take o d ++ l) (filled-next w f wide k (drop o d) (run f k ++ drop (k * w) (drop o d)) ys refl ey)
+
+-- ---- where blocks stand
+
+some-blocks : (s : Section) → 0 < blocksOf s
+some-blocks Header = omega arith
+some-blocks Subcode = omega arith
+some-blocks Vaux = omega arith
+some-blocks Audio = omega arith
+some-blocks Video = omega arith
+
+pub start-is : (s : Section) (p : Place) → p ≡ placeFor s (record { 0 = 0 }) → p .0 * 80 ≡ placeIn s 0 * 80
+start-is s p ep = ap (λ (x : Place). x .0 * 80) (ep ∙ place-for s _ (some-blocks s))
+
+-- the place of A(a), and the number behind it
+module _ (a : ℕ) (p : Place) (ep : p ≡ placeFor Audio (record { 0 = a })) where
+  pub behind-fits : Fits w32 (p .0 + 1)
+  behind-fits =
+      by-lt a 9
+      (λ h. omega (arith, ap (λ (x : Place). x .0) (ep ∙ place-for Audio _ h)))
+      (λ h. omega (arith, ap (λ (x : Place). x .0) (ep ∙ place-for-past Audio _ h)))
+
+  pub behind-is : (e : Entry) → e ≡ entryAt (place (p .0 + 1)) → e .number .0 ≡ entryAt (place (placeFor Audio (record { 0 = a }) .0 + 1)) .number .0
+  behind-is e ee = ap (λ (x : Entry). x .number .0) ee ∙ ap (λ (x : Place). entryAt (place (x .0 + 1)) .number .0) ep
+
+  module _ (ha : a < 9) where
+    bank-stands : p .0 ≡ 6 + 16 * a
+    bank-stands = ap (λ (x : Place). x .0) (ep ∙ place-for Audio _ ha)
+
+-- V(15a) is behind A(a)
+behind-first-video : (a v : ℕ) → a < 9 → v ≡ entryAt (place (placeFor Audio (record { 0 = a }) .0 + 1)) .number .0 → v ≡ 15 * a
+behind-first-video a v ha ev =
+    let at : placeFor Audio (record { 0 = a }) .0 + 1 ≡ placeIn Video (15 * a) = omega (arith, bank-stands a (placeFor Audio (record { 0 = a })) refl ha) in
+    ev ∙ ap (λ (n : ℕ). entryAt (place n) .number .0) at ∙ ap (λ (x : Entry). x .number .0) (entry-place-in Video (15 * a) (omega arith))
+
+-- ---- blocks of a section, one after the other
+
+-- what fits is written
 written : (b : Bool) (ws ps zs : List ℕ) → b ≡ true → zs ≡ pick b ws ps → zs ≡ ws
 written b ws ps zs e ez = ez ∙ pick-true ws ps e
 
 number-fits : (n k m : ℕ) → n ≡ 80 → k < m → numberFits n k m ≡ true
 number-fits n k m e l = rw (eq-eqb _ _ e, lt-ltb _ _ l) refl
 
--- the part of m bytes from byte a on
-part-long : (xs : List ℕ) (a m : ℕ) → a + m ≤ length xs → length (take (a + m - a) (drop a xs)) ≡ m
-part-long xs a m l = ap length (range-part a m xs) ∙ length-part a m xs l
+block-wide : (h q : ℕ) (s : Section) (payload : ℕ → List ℕ) → Wide 77 payload → Wide 80 (blockOf h q s payload)
+unfolding idBytes
+block-wide h q s payload wide k = omega (arith, wide k)
 
--- a part that comes back as long as it went
-put-long : (xs ys : List ℕ) (a m : ℕ) → length xs ≡ 12000 → length ys ≡ m → a + m ≤ 12000 → length (putMid a (a + m - a) xs ys) ≡ 12000
-put-long xs ys a m ex ey le =
-    let zs = drop (a + m - a) (drop a xs) in
-    let before : length (take a xs) ≡ a = length-take-le a xs (omega (arith, ex)) in
-    length-append (take a xs) (ys ++ zs) ∙ omega (arith, length-append ys zs, length-drop (a + m - a) (drop a xs), length-drop a xs, before, ex, ey)
+module _ (h q : ℕ) (s : Section) (payload : ℕ → List ℕ) (wide : Wide 77 payload) (d xs : List ℕ) (k n : ℕ) (ex : Filled 80 (blockOf h q s payload) k d xs) where
+  -- block k of n comes back
+  first-turn : (ys : List ℕ) (i : BlockId) → length xs ≡ length d → length d ≡ n * 80 → k < n → i ≡ idOf h q s k
+      → ys ≡ pick (numberFits (length (take (k * 80 + 80 - k * 80) (drop (k * 80) xs))) k n) (idBytes i ++ payload k) (take (k * 80 + 80 - k * 80) (drop (k * 80) xs))
+      → Filled 80 (blockOf h q s payload) (k + 1) d (putMid (k * 80) (k * 80 + 80 - k * 80) xs ys)
+  first-turn ys i same len hk ei ey =
+      let long = part-long xs (k * 80) 80 (omega (arith, same, len)) in
+      filled-next 80 (blockOf h q s payload) (block-wide h q s payload wide) k d xs ys ex (written _ _ _ ys (number-fits _ k n long hk) ey ∙ rw ei refl)
 
--- ---- where a block stands: p is the place of block k of section s
+  first-done : length d ≡ n * 80 → k ≤ n → n ≤ k → xs ≡ firstBlocks h q s payload n
+  unfolding firstBlocks
+  first-done len le ge = filled-end 80 (blockOf h q s payload) k n d xs ex len le ge
 
-module _ (s : Section) (k : ℕ) (p : Place) (ep : p ≡ placeFor s (record { 0 = k })) (hk : k < blocksOf s) where
-  stands : p .0 ≡ placeIn s k
-  stands = ap (λ (x : Place). x .0) (ep ∙ place-for s _ hk)
+module _ (y : System) (h q : ℕ) (said : SubcodeData) (d xs : List ℕ) (k : ℕ) (ex : Filled 80 (blockOf h q Subcode (subcodeBytes (isFirst y q) said)) k d xs) (len : length d ≡ 160) where
+  pub subcodes-turn : (ys : List ℕ) (i : BlockId) (s : ℕ) → length xs ≡ length d → k < 2 → i ≡ idOf h q Subcode k → s ≡ halfOf y
+      → ys ≡ pick (numberFits (length (take (k * 80 + 80 - k * 80) (drop (k * 80) xs))) (i .dbn .0) 2) (idBytes i ++ subcodeBytes (ltb q s) said (i .dbn .0)) (take (k * 80 + 80 - k * 80) (drop (k * 80) xs))
+      → Filled 80 (blockOf h q Subcode (subcodeBytes (isFirst y q) said)) (k + 1) d (putMid (k * 80) (k * 80 + 80 - k * 80) xs ys)
+  subcodes-turn ys i s same hk ei es ey =
+      first-turn h q Subcode (subcodeBytes (isFirst y q) said) (subcode-length (isFirst y q) said) d xs k 2 ex ys i same len hk ei (ey ∙ rw (ei, es) refl)
 
-  stands-within : p .0 < 150
-  stands-within = omega (arith, stands, place-in-below s k hk)
+  pub subcodes-done : k ≤ 2 → 2 ≤ k → xs ≡ firstBlocks h q Subcode (subcodeBytes (isFirst y q) said) 2
+  subcodes-done = first-done h q Subcode (subcodeBytes (isFirst y q) said) (subcode-length (isFirst y q) said) d xs k 2 ex len
 
-  pub block-ends : (xs : List ℕ) → length xs ≡ 12000 → p .0 * 80 + 80 ≤ length xs
-  block-ends xs e = omega (arith, e, stands-within)
+module _ (h q : ℕ) (vs vsc : Pack) (d xs : List ℕ) (k : ℕ) (ex : Filled 80 (blockOf h q Vaux (vauxBytes vs vsc q)) k d xs) (len : length d ≡ 240) where
+  pub vauxes-turn : (ys : List ℕ) (i : BlockId) → length xs ≡ length d → k < 3 → i ≡ idOf h q Vaux k
+      → ys ≡ pick (numberFits (length (take (k * 80 + 80 - k * 80) (drop (k * 80) xs))) (i .dbn .0) 3) (idBytes i ++ vauxBytes vs vsc (i .dseq) (i .dbn .0)) (take (k * 80 + 80 - k * 80) (drop (k * 80) xs))
+      → Filled 80 (blockOf h q Vaux (vauxBytes vs vsc q)) (k + 1) d (putMid (k * 80) (k * 80 + 80 - k * 80) xs ys)
+  vauxes-turn ys i same hk ei ey = first-turn h q Vaux (vauxBytes vs vsc q) (vaux-length vs vsc q) d xs k 3 ex ys i same len hk ei (ey ∙ rw ei refl)
 
--- every place that the rule gives, and the one behind it
-pub behind-fits : (s : Section) (k : BlockNumber) (p : Place) → p ≡ placeFor s k → Fits w32 (p .0 + 1)
-behind-fits s k p ep =
-    by-lt (k .0) (blocksOf s)
-    (λ h. omega (arith, stands-within s (k .0) p ep h))
-    (λ h. omega (arith, ap (λ (x : Place). x .0) (ep ∙ place-for-past s k h)))
+  pub vauxes-done : k ≤ 3 → 3 ≤ k → xs ≡ firstBlocks h q Vaux (vauxBytes vs vsc q) 3
+  vauxes-done = first-done h q Vaux (vauxBytes vs vsc q) (vaux-length vs vsc q) d xs k 3 ex len
 
-pub behind-is : (s : Section) (k : BlockNumber) (p : Place) (e : Entry) → p ≡ placeFor s k → e ≡ entryAt (place (p .0 + 1)) → e .number ≡ entryAt (place (placeFor s k .0 + 1)) .number
-behind-is s k p e ep ee = ap (λ (x : Entry). x .number) ee ∙ ap (λ (x : Place). entryAt (place (x .0 + 1)) .number) ep
+-- ---- the six blocks before the banks
 
--- ---- a sequence in stream order
+-- the parts end where SC0, VA0 and A0 stand
+pub head-done : (y : System) (h q : ℕ) (r : Repeated) (a b e : ℕ) (xs zs ss vs : List ℕ) (i : BlockId) → length xs ≡ 480 → a ≡ placeIn Subcode 0 * 80 → b ≡ placeIn Vaux 0 * 80
+    → e ≡ placeIn Audio 0 * 80 → i ≡ idOf h q Header 0
+    → zs ≡ pick (eqb (length (take (a - 0) (drop 0 xs))) 80) (idBytes i ++ headerBytes y) (take (a - 0) (drop 0 xs))
+    → ss ≡ firstBlocks h q Subcode (subcodeBytes (isFirst y q) (r .subcode)) 2 → vs ≡ firstBlocks h q Vaux (vauxBytes (r .vs) (r .vsc) q) 3
+    → putMid b (e - b) (putMid a (b - a) (zs ++ postOf 0 (a - 0) xs) ss) vs ≡ headBlocks y r h q
+unfolding headBlocks firstBlocks idBytes
+head-done y h q r a b e xs zs ss vs i ex ea eb ee ei ez ess ev =
+    let fits : length (take (a - 0) (drop 0 xs)) ≡ 80 = rw ea (length-take-le 80 xs (omega (arith, ex))) in
+    let here : zs ≡ idBytes (idOf h q Header 0) ++ headerBytes y = written _ _ _ zs (eq-eqb _ _ fits) ez ∙ rw ei refl in
+    let long : length zs ≡ 80 = ap length here ∙ omega (arith, header-length y) in
+    let subcodes : ℕ → List ℕ = subcodeBytes (isFirst y q) (r .subcode) in
+    let two : length ss ≡ 160 = ap length ess ∙ length-run 80 (blockOf h q Subcode subcodes) (block-wide h q Subcode subcodes (subcode-length (isFirst y q) (r .subcode))) 2 in
+    let parts : putMid 240 240 (putMid 80 160 (zs ++ postOf 0 80 xs) ss) vs ≡ zs ++ (ss ++ vs) = three-parts 80 160 240 zs ss vs xs long two ex in
+    let blocks : zs ++ (ss ++ vs) ≡ headBlocks y r h q = rw (here, ess, ev) refl in
+    rw (ea, eb, ee) (parts ∙ blocks)
 
-module _ (y : System) (h q count : ℕ) (sound : List ℤ) (macroblocks time group : List ℕ) where
-  abbrev l : Contents
-  l = contentsOf count sound macroblocks time group
+-- ---- the video blocks of a bank
 
-  -- the places up to r are written, where m bytes come back from place p on
-  begun-on : (xs ys : List ℕ) (p r m : ℕ) → Begun xs y h q l p → run (writtenBlock y l h q) r ≡ run (writtenBlock y l h q) p ++ ys → length ys ≡ m → p * 80 + m ≤ 12000
-      → Begun (putMid (p * 80) (p * 80 + m - p * 80) xs ys) y h q l r
-  begun-on xs ys p r m b er n le =
-      let f : ℕ → List ℕ = writtenBlock y l h q in
-      let w = b .whole in
-      let zs = drop (p * 80 + m - p * 80) (drop (p * 80) xs) in
-      let e : take (p * 80) xs ++ (ys ++ zs) ≡ run f r ++ zs = ap (λ (x : List ℕ). x ++ (ys ++ zs)) (b .is) ∙ sym (append-assoc (run f p) ys zs) ∙ ap (λ (x : List ℕ). x ++ zs) (sym er) in
-      record {
-        whole = record { long = put-long xs ys (p * 80) m (w .long) n le; channel = w .channel; sequence = w .sequence; lengths = w .lengths };
-        is = ap (take (r * 80)) e ∙ take-at (run f r) zs (r * 80) (length-run 80 f (block-wide y l h q) r);
-      }
+module _ (y : System) (macroblocks : List ℕ) (h q v : ℕ) where
+  abbrev pub video-in : ℕ → List ℕ
+  video-in j = blockOf h q Video (videoBytes y macroblocks h q) (v + j)
 
-  begun-none : (xs : List ℕ) → PartAsked xs 12000 y h q l → Begun xs y h q l 0
-  begun-none xs asked = record { whole = asked; is = sym (run-zero (writtenBlock y l h q)) }
+  module _ (d xs : List ℕ) (asked : VideosAsked d y macroblocks v) (j : ℕ) (ex : Filled 80 video-in j d xs) where
+    video-fits : j < 15 → length xs ≡ length d → videoFits (length (take (j * 80 + 80 - j * 80) (drop (j * 80) xs))) y (length macroblocks) ≡ true
+    unfolding videoFits
+    video-fits hj same = rw (eq-eqb _ _ (part-long xs (j * 80) 80 (omega (arith, same, asked .long))), eq-eqb _ _ (asked .pictures)) refl
 
-  -- one block more
-  module _ (s : Section) (k : ℕ) (p : Place) (ep : p ≡ placeFor s (record { 0 = k })) (hk : k < blocksOf s) (xs : List ℕ) (b : Begun xs y h q l (placeIn s k)) where
-    block-on : (ys : List ℕ) (i : BlockId) (r : ℕ) → i ≡ idOf h q s k → ys ≡ idBytes i ++ payload y l h q s k → r ≡ placeIn s k + 1
-        → Begun (putMid (p .0 * 80) (p .0 * 80 + 80 - p .0 * 80) xs ys) y h q l r
-    block-on ys i r ei ey er =
-        let f : ℕ → List ℕ = writtenBlock y l h q in
-        let here : ys ≡ f (placeIn s k) = ey ∙ rw ei (sym (block-entry y l h q s k hk)) in
-        let more : run f r ≡ run f (placeIn s k) ++ ys = ap (run f) er ∙ run-more f (placeIn s k) ∙ ap (λ (x : List ℕ). run f (placeIn s k) ++ x) (sym here) in
-        rw (stands s k p ep hk) (begun-on xs ys (placeIn s k) r 80 b more (ap length here ∙ block-wide y l h q (placeIn s k)) (omega (arith, place-in-below s k hk)))
+    pub videos-turn : (ys : List ℕ) (i : BlockId) → length xs ≡ length d → j < 15 → i ≡ idOf h q Video (v + j)
+        → ys ≡ pick (videoFits (length (take (j * 80 + 80 - j * 80) (drop (j * 80) xs))) y (length macroblocks)) (idBytes i ++ videoBytes y macroblocks (i .channel) (i .dseq) (i .dbn .0)) (take (j * 80 + 80 - j * 80) (drop (j * 80) xs))
+        → Filled 80 video-in (j + 1) d (putMid (j * 80) (j * 80 + 80 - j * 80) xs ys)
+    videos-turn ys i same hj ei ey =
+        filled-next 80 video-in (λ n. block-wide h q Video (videoBytes y macroblocks h q) (video-length y macroblocks h q) (v + n)) j d xs ys ex (written _ _ _ ys (video-fits hj same) ey ∙ rw ei refl)
 
-    block-long : length (take (p .0 * 80 + 80 - p .0 * 80) (drop (p .0 * 80) xs)) ≡ 80
-    block-long = part-long xs (p .0 * 80) 80 (block-ends s k p ep hk xs (b .whole .long))
+    pub videos-done : j ≤ 15 → 15 ≤ j → xs ≡ videoBlocks y macroblocks h q v
+    unfolding videoBlocks
+    videos-done le ge = filled-end 80 video-in j 15 d xs ex (asked .long) le ge
 
-  -- ---- H0, SC0, SC1; VA0, VA1, VA2
+-- ---- a bank
 
-  pub header-done : (xs ys : List ℕ) (i : BlockId) (p : Place) → PartAsked xs 12000 y h q l → p ≡ placeFor Header (record { 0 = 0 }) → i ≡ idOf h q Header 0
-      → ys ≡ pick (eqb (length (take (p .0 * 80 + 80 - p .0 * 80) (drop (p .0 * 80) xs))) 80) (idBytes i ++ headerBytes y) (take (p .0 * 80 + 80 - p .0 * 80) (drop (p .0 * 80) xs))
-      → Begun (putMid (p .0 * 80) (p .0 * 80 + 80 - p .0 * 80) xs ys) y h q l 1
-  unfolding payload
-  header-done xs ys i p asked ep ei ey =
-      let hk : 0 < blocksOf Header = omega arith in
-      let b : Begun xs y h q l 0 = begun-none xs asked in
-      block-on Header 0 p ep hk xs b ys i 1 ei (written _ _ _ ys (eq-eqb _ _ (block-long Header 0 p ep hk xs b)) ey) refl
+module _ (y : System) (h q a : ℕ) (source asc : Pack) (samples : List ℤ) (macroblocks xs : List ℕ) (asked : BankAsked xs y samples macroblocks a) where
+  pub videos-asked : (ws : List ℕ) (v : ℕ) → length ws ≡ 1200 → v ≡ entryAt (place (placeFor Audio (record { 0 = a }) .0 + 1)) .number .0 → VideosAsked ws y macroblocks v
+  videos-asked ws v n ev = record { long = n; pictures = asked .whole .pictures; room = omega (arith, asked .below, behind-first-video a v (asked .below) ev) }
 
-  module _ (xs : List ℕ) (k : ℕ) (p : Place) where
-    module _ (ep : p ≡ placeFor Subcode (record { 0 = k })) (b : Begun xs y h q l (1 + k)) (hk : k < 2) where
-      pub subcode-ends : p .0 * 80 + 80 ≤ length xs
-      subcode-ends = block-ends Subcode k p ep hk xs (b .whole .long)
+  audio-fits : (ps : List ℕ) → length ps ≡ 80 → audioFits (length ps) y (length samples) a ≡ true
+  unfolding audioFits
+  audio-fits ps n = rw (eq-eqb _ _ n, lt-ltb _ _ (asked .below), le-leb _ _ (asked .whole .turns)) refl
 
-      pub subcodes-turn : (ys : List ℕ) (i : BlockId) (s : ℕ) → s ≡ halfOf y → i ≡ idOf h q Subcode k
-          → ys ≡ pick (numberFits (length (take (p .0 * 80 + 80 - p .0 * 80) (drop (p .0 * 80) xs))) k 2) (idBytes i ++ subcodeBytes (ltb q s) (timePack time) (groupPack group) k) (take (p .0 * 80 + 80 - p .0 * 80) (drop (p .0 * 80) xs))
-          → Begun (putMid (p .0 * 80) (p .0 * 80 + 80 - p .0 * 80) xs ys) y h q l (1 + (k + 1))
-      unfolding payload
-      subcodes-turn ys i s es ei ey =
-          block-on Subcode k p ep hk xs b ys i (1 + (k + 1)) ei (written _ _ _ ys (number-fits _ k 2 (block-long Subcode k p ep hk xs b) hk) ey ∙ rw es refl) (omega arith)
+  pub bank-done : (ps zs vs : List ℕ) (i : BlockId) (v : ℕ) → length ps ≡ 80 → i ≡ idOf h q Audio a → v ≡ entryAt (place (placeFor Audio (record { 0 = a }) .0 + 1)) .number .0
+      → zs ≡ pick (audioFits (length ps) y (length samples) (i .dbn .0)) (idBytes i ++ audioBytes y source asc samples (i .dseq) (i .dbn .0)) ps
+      → vs ≡ videoBlocks y macroblocks h q v → putMid 80 1200 (zs ++ postOf 0 80 xs) vs ≡ bankBlocks y source asc samples macroblocks h q a
+  unfolding bankBlocks
+  bank-done ps zs vs i v n ei e ez ev =
+      let here : zs ≡ blockOf h q Audio (audioBytes y source asc samples q) a = written _ _ ps zs (audio-fits ps n) (ez ∙ rw ei refl) in
+      let long : length zs ≡ 80 = ap length here ∙ block-wide h q Audio (audioBytes y source asc samples q) (audio-length y source asc samples q) a in
+      two-parts 80 1200 zs vs xs long (asked .whole .long) ∙ rw (here, ev, behind-first-video a v (asked .below) e) refl
 
-    module _ (ep : p ≡ placeFor Vaux (record { 0 = k })) (b : Begun xs y h q l (3 + k)) (hk : k < 3) where
-      pub vaux-ends : p .0 * 80 + 80 ≤ length xs
-      vaux-ends = block-ends Vaux k p ep hk xs (b .whole .long)
+-- ---- the banks
 
-      pub vauxes-turn : (ys : List ℕ) (i : BlockId) → i ≡ idOf h q Vaux k
-          → ys ≡ pick (numberFits (length (take (p .0 * 80 + 80 - p .0 * 80) (drop (p .0 * 80) xs))) k 3) (idBytes i ++ vauxBytes y q k) (take (p .0 * 80 + 80 - p .0 * 80) (drop (p .0 * 80) xs))
-          → Begun (putMid (p .0 * 80) (p .0 * 80 + 80 - p .0 * 80) xs ys) y h q l (3 + (k + 1))
-      unfolding payload
-      vauxes-turn ys i ei ey =
-          block-on Vaux k p ep hk xs b ys i (3 + (k + 1)) ei (written _ _ _ ys (number-fits _ k 3 (block-long Vaux k p ep hk xs b) hk) ey) (omega arith)
+module _ (y : System) (h q : ℕ) (source asc : Pack) (samples : List ℤ) (macroblocks : List ℕ) where
+  abbrev pub bank-at : ℕ → List ℕ
+  bank-at = bankBlocks y source asc samples macroblocks h q
 
-  -- after the last turn
-  module _ (xs : List ℕ) (k : ℕ) where
-    begun-end : (p r : ℕ) → Begun xs y h q l p → p ≡ r → Begun xs y h q l r
-    begun-end p r b e = subst (Begun xs y h q l) e b
+  bank-wide : Wide 1280 bank-at
+  unfolding bankBlocks videoBlocks
+  bank-wide a =
+      let first = block-wide h q Audio (audioBytes y source asc samples q) (audio-length y source asc samples q) a in
+      let videos : ℕ → List ℕ = video-in y macroblocks h q (15 * a) in
+      let rest = length-run 80 videos (λ j. block-wide h q Video (videoBytes y macroblocks h q) (video-length y macroblocks h q) (15 * a + j)) 15 in
+      length-append (blockOf h q Audio (audioBytes y source asc samples q) a) (run videos 15) ∙ omega (arith, first, rest)
 
-    pub subcodes-done : Begun xs y h q l (1 + k) → k ≤ 2 → 2 ≤ k → Begun xs y h q l 3
-    subcodes-done b le ge = begun-end (1 + k) 3 b (omega arith)
-
-    pub vauxes-done : Begun xs y h q l (3 + k) → k ≤ 3 → 3 ≤ k → Begun xs y h q l 6
-    vauxes-done b le ge = begun-end (3 + k) 6 b (omega arith)
-
-    pub banks-done : Begun xs y h q l (6 + 16 * k) → k ≤ 9 → 9 ≤ k → Begun xs y h q l 150
-    banks-done b le ge = begun-end (6 + 16 * k) 150 b (omega arith)
-
-  -- ---- the video blocks of a bank
-
-  module _ (v : ℕ) where
-    abbrev pub video-in : ℕ → List ℕ
-    video-in j = entryBlock y l h q (block Video (v + j))
-
-    module _ (d xs : List ℕ) (asked : VideosAsked d y h q v l) where
-      video-fits : (j : ℕ) → j < 15 → length xs ≡ length d → videoFits (length (take (j * 80 + 80 - j * 80) (drop (j * 80) xs))) y (length macroblocks) ≡ true
-      unfolding videoFits
-      video-fits j hj same = rw (eq-eqb _ _ (part-long xs (j * 80) 80 (omega (arith, same, asked .whole .long))), eq-eqb _ _ (asked .whole .lengths .pictures)) refl
-
-      module _ (j : ℕ) (ex : Filled 80 video-in j d xs) where
-        pub videos-turn : (ys : List ℕ) (i : BlockId) → length xs ≡ length d → j < 15 → i ≡ idOf h q Video (v + j)
-            → ys ≡ pick (videoFits (length (take (j * 80 + 80 - j * 80) (drop (j * 80) xs))) y (length macroblocks)) (idBytes i ++ carriedBytes macroblocks (carriedIn y (slot h q (v + j)))) (take (j * 80 + 80 - j * 80) (drop (j * 80) xs))
-            → Filled 80 video-in (j + 1) d (putMid (j * 80) (j * 80 + 80 - j * 80) xs ys)
-        unfolding entryBlock payload videoBytes
-        videos-turn ys i same hj ei ey =
-            filled-next 80 video-in (λ n. entry-block-length y l h q (block Video (v + n))) j d xs ys ex
-            (written _ _ _ ys (video-fits j hj same) ey ∙ rw ei refl)
-
-        pub videos-done : j ≤ 15 → 15 ≤ j → xs ≡ videoBlocks y l h q v
-        unfolding videoBlocks
-        videos-done le ge = filled-end 80 video-in j 15 d xs ex (asked .whole .long) le ge
-
-  -- ---- a bank: A(a), and the number behind it
-
-  module _ (a : BlockNumber) (xs : List ℕ) (asked : BankAsked xs y h q (a .0) l) where
-    abbrev p : ℕ
-    p = placeFor Audio a .0
-
-    bank-stands : p ≡ 6 + 16 * a .0
-    bank-stands = stands Audio (a .0) (placeFor Audio a) refl (asked .audio)
-
-    -- the place j + 1 behind A(a) holds V(15a + j)
-    follows : (j : ℕ) → j < 15 → entryAt (place (p + (1 + j))) ≡ block Video (15 * a .0 + j)
-    follows j hj =
-        let e : p + (1 + j) ≡ placeIn Video (15 * a .0 + j) = omega (arith, bank-stands) in
-        ap (λ (n : ℕ). entryAt (place n)) e ∙ entry-place-in Video (15 * a .0 + j) (omega (arith, asked .audio))
-
-    module _ (v : BlockNumber) (ev : v ≡ entryAt (place (p + 1)) .number) where
-      first-is : v .0 ≡ 15 * a .0
-      first-is = ap (λ (x : BlockNumber). x .0) (ev ∙ ap (λ (x : Entry). x .number) (follows 0 (omega arith))) ∙ omega arith
-
-      pub videos-asked : (ws : List ℕ) → length ws ≡ 1200 → VideosAsked ws y h q (v .0) l
-      videos-asked ws n = record {
-        whole = record { long = n; channel = asked .whole .channel; sequence = asked .whole .sequence; lengths = asked .whole .lengths };
-        room = omega (arith, first-is, asked .audio);
-      }
-
-      bank-parts : bankBlocks y l h q p ≡ writtenBlock y l h q p ++ videoBlocks y l h q (v .0)
-      unfolding bankBlocks videoBlocks writtenBlock run
-      bank-parts =
-          let first : p + 0 ≡ p = omega arith in
-          let next : (j : ℕ) → j < 15 → writtenBlock y l h q (p + (1 + j)) ≡ video-in (v .0) j =
-          λ j hj. ap (entryBlock y l h q) (follows j hj ∙ ap (λ (n : ℕ). block Video (n + j)) (sym first-is)) in
-          run-split (λ (j : ℕ). writtenBlock y l h q (p + j)) 1 15
-          ∙ ap₂ _++_ (ap (writtenBlock y l h q) first) (run-same (λ (j : ℕ). writtenBlock y l h q (p + (1 + j))) (video-in (v .0)) 15 next)
-
-      audio-fits : (ps : List ℕ) → length ps ≡ 80 → audioFits (length ps) y h q count (length sound) (a .0) ≡ true
-      unfolding audioFits
-      audio-fits ps n =
-          let r = asked .whole in
-          rw (eq-eqb _ _ n, lt-ltb _ _ (asked .audio), lt-ltb _ _ (r .channel), lt-ltb _ _ (r .sequence), r .lengths .counts, eq-eqb _ _ (r .lengths .sounds)) refl
-
-      pub bank-done : (ps zs vs : List ℕ) (i : BlockId) → length ps ≡ 80 → i ≡ idOf h q Audio (a .0)
-          → zs ≡ pick (audioFits (length ps) y h q count (length sound) (a .0)) (idBytes i ++ audioBytes y l h q (a .0)) ps → vs ≡ videoBlocks y l h q (v .0)
-          → putMid 80 1200 (zs ++ postOf 0 80 xs) vs ≡ bankBlocks y l h q (placeFor Audio a .0)
-      unfolding payload
-      bank-done ps zs vs i n ei ez es =
-          let here : writtenBlock y l h q p ≡ idBytes (idOf h q Audio (a .0)) ++ audioBytes y l h q (a .0) = ap (writtenBlock y l h q) bank-stands ∙ block-entry y l h q Audio (a .0) (asked .audio) in
-          let ea : zs ≡ writtenBlock y l h q p = written _ _ ps zs (audio-fits ps n) ez ∙ rw ei (sym here) in
-          two-parts 80 1200 zs vs xs (ap length ea ∙ block-wide y l h q p) (asked .whole .long) ∙ rw (ea, es) (sym bank-parts)
-
-  -- ---- the banks
-
-  module _ (xs : List ℕ) (a : ℕ) (p : Place) (ep : p ≡ placeFor Audio (record { 0 = a })) (b : Begun xs y h q l (6 + 16 * a)) (ha : a < 9) where
-    bank-at : p .0 ≡ 6 + 16 * a
-    bank-at = stands Audio a p ep ha
-
+  module _ (d xs : List ℕ) (asked : BanksAsked d 12000 y samples macroblocks) (a : ℕ) (p : Place) (ep : p ≡ placeFor Audio (record { 0 = a })) (ha : a < 9) (same : length xs ≡ length d) where
     pub bank-ends : p .0 * 80 + 1280 ≤ length xs
-    bank-ends = omega (arith, b .whole .long, bank-at)
+    bank-ends = omega (arith, same, asked .long, bank-stands a p ep ha)
 
-    pub bank-asked : BankAsked (take (p .0 * 80 + 1280 - p .0 * 80) (drop (p .0 * 80) xs)) y h q a l
-    bank-asked =
-        let w = b .whole in
-        record { whole = record { long = part-long xs (p .0 * 80) 1280 bank-ends; channel = w .channel; sequence = w .sequence; lengths = w .lengths }; audio = ha }
+    pub bank-asked : BankAsked (take (p .0 * 80 + 1280 - p .0 * 80) (drop (p .0 * 80) xs)) y samples macroblocks a
+    bank-asked = record { whole = record { long = part-long xs (p .0 * 80) 1280 bank-ends; turns = asked .turns; pictures = asked .pictures }; below = ha }
 
-    pub banks-turn : (ys : List ℕ) → ys ≡ bankBlocks y l h q (placeFor Audio (record { 0 = a }) .0)
-        → Begun (putMid (p .0 * 80) (p .0 * 80 + 1280 - p .0 * 80) xs ys) y h q l (6 + 16 * (a + 1))
-    unfolding bankBlocks
-    banks-turn ys ey =
-        let f : ℕ → List ℕ = writtenBlock y l h q in
-        let here : ys ≡ run (λ (j : ℕ). f (p .0 + j)) 16 = ey ∙ ap (λ (x : Place). run (λ (j : ℕ). f (x .0 + j)) 16) (sym ep) in
-        let to : 6 + 16 * (a + 1) ≡ p .0 + 16 = omega (arith, bank-at) in
-        let more : run f (6 + 16 * (a + 1)) ≡ run f (p .0) ++ ys = ap (run f) to ∙ run-split f (p .0) 16 ∙ ap (λ (x : List ℕ). run f (p .0) ++ x) (sym here) in
-        begun-on xs ys (p .0) (6 + 16 * (a + 1)) 1280 (subst (Begun xs y h q l) (sym bank-at) b) more
-        (ap length here ∙ length-run 80 (λ (j : ℕ). f (p .0 + j)) (λ j. block-wide y l h q (p .0 + j)) 16) (omega (arith, bank-at))
+    pub banks-turn : (ys : List ℕ) → FilledFrom 480 1280 bank-at a d xs → ys ≡ bankBlocks y source asc samples macroblocks h q a
+        → FilledFrom 480 1280 bank-at (a + 1) d (putMid (p .0 * 80) (p .0 * 80 + 1280 - p .0 * 80) xs ys)
+    banks-turn ys ex ey = from-next 480 1280 bank-at bank-wide a d xs ys (omega (arith, asked .long)) ex (p .0 * 80) (omega (arith, bank-stands a p ep ha)) ey
 
-  -- ---- the sequence
+  pub banks-done : (d xs : List ℕ) (a : ℕ) → BanksAsked d 12000 y samples macroblocks → FilledFrom 480 1280 bank-at a d xs → a ≤ 9 → 9 ≤ a → xs ≡ take 480 d ++ run bank-at 9
+  banks-done d xs a asked ex le ge =
+      let rest : length (drop 480 d) ≡ 9 * 1280 = omega (arith, length-drop 480 d, asked .long) in
+      ex ∙ ap (λ (l : List ℕ). take 480 d ++ l) (filled-end 1280 bank-at a 9 (drop 480 d) (run bank-at a ++ drop (a * 1280) (drop 480 d)) refl rest le ge)
 
-  pub sequence-done : (xs : List ℕ) → Begun xs y h q l 150 → xs ≡ writtenSequence y l h q
-  unfolding writtenSequence
-  sequence-done xs b = sym (take-all 12000 xs (omega (arith, b .whole .long))) ∙ b .is
+-- ---- the sequence: by the place rule it is the six blocks and the nine banks
+
+module _ (y : System) (m : Material) (h q : ℕ) where
+  abbrev at-place : ℕ → List ℕ
+  at-place = writtenBlock y m h q
+
+  -- the block at the place of block k of section s
+  stands : (s : Section) (k p : ℕ) → k < blocksOf s → p ≡ placeIn s k → at-place p ≡ blockOf h q s (payload y m h q s) k
+  stands s k p hk e = ap at-place e ∙ block-entry y m h q s k hk
+
+  head-places : run at-place 6 ≡ headBlocks y (m .repeated) h q
+  unfolding headBlocks firstBlocks payload run
+  head-places =
+      run-split at-place 1 5
+      ∙ ap₂ _++_ (stands Header 0 0 (omega arith) refl) (run-split (λ (i : ℕ). at-place (1 + i)) 2 3
+      ∙ ap₂ _++_ (run-same _ _ 2 (λ k hk. stands Subcode k (1 + k) hk refl)) (run-same _ _ 3 (λ k hk. stands Vaux k (1 + (2 + k)) hk (omega arith))))
+
+  module _ (c : ℕ) (ec : c ≡ audioAt (halfOf y) h q) where
+    abbrev bank : ℕ → List ℕ
+    bank = bankBlocks y (asPack y (m .count) c) (m .repeated .asc) (samplesOf (m .count) (m .sound) c) (m .macroblocks) h q
+
+    -- A(a), if its audio channel is i
+    abbrev audio-block : ℕ → ℕ → List ℕ
+    audio-block a i = blockOf h q Audio (audioBytes y (asPack y (m .count) i) (m .repeated .asc) (samplesOf (m .count) (m .sound) i) q) a
+
+    bank-places : (a : ℕ) → a < 9 → run (λ (j : ℕ). at-place (6 + (16 * a + j))) 16 ≡ bank a
+    unfolding bankBlocks videoBlocks payload run
+    bank-places a ha =
+        run-split (λ (j : ℕ). at-place (6 + (16 * a + j))) 1 15
+        ∙ ap₂ _++_ (stands Audio a (6 + (16 * a + 0)) ha (omega arith) ∙ ap (audio-block a) (sym ec))
+        (run-same _ _ 15 (λ j hj. stands Video (15 * a + j) (6 + (16 * a + (1 + j))) (omega arith) (omega arith)))
+
+    banks-places : run (λ (i : ℕ). at-place (6 + i)) 144 ≡ run bank 9
+    banks-places =
+        run-same _ _ 144 (λ i hi. let e : 6 + i ≡ 6 + (16 * (i / 16) + i % 16) = omega arith in ap at-place e)
+        ∙ run-runs (λ (a j : ℕ). at-place (6 + (16 * a + j))) 16 9 (omega arith)
+        ∙ run-same _ _ 9 bank-places
+
+    sequence-is : writtenSequence y m h q ≡ headBlocks y (m .repeated) h q ++ run bank 9
+    unfolding writtenSequence
+    sequence-is = run-split at-place 6 144 ∙ ap₂ _++_ head-places banks-places
+
+module _ (y : System) (h q count : ℕ) (sound : List ℤ) (macroblocks xs : List ℕ) (asked : SequenceAsked xs y h q count sound macroblocks) (s : ℕ) (es : s ≡ halfOf y) where
+  half : Half s
+  half = subst Half (sym es) (half-cases y)
+
+  below : q < 2 * s
+  below = omega (arith, asked .sequence, half-twice y, es)
+
+  pub channel-asked : ChannelAsked s h q
+  channel-asked = record { half = half; channel = asked .channel; sequence = below }
+
+  module _ (c : ℕ) (ec : c ≡ audioAt s h q) where
+    within : (0 < c) × (c < 9)
+    within = rw ec (audio-within s h q half below (asked .channel))
+
+    pub samples-asked : SamplesAsked sound c count
+    samples-asked = record {
+      above = within .0;
+      below = within .1;
+      counted = omega (arith, count-below y count (asked .lengths .counts), positions-le y);
+      sounds = asked .lengths .sounds;
+    }
+
+    pub banks-asked : (part : List ℕ) (samples : List ℤ) → length part ≡ length xs → samples ≡ samplesOf count sound c → BanksAsked part 12000 y samples macroblocks
+    banks-asked part samples n e =
+        let len : length samples ≡ count = ap length e ∙ samples-length count sound c (within .0) (within .1) (asked .lengths .sounds) in
+        let turns : 9 * halfOf y * 35 ≤ count = count-turns y count (asked .lengths .counts) in
+        record { long = n ∙ asked .long; turns = omega (arith, len, turns); pictures = asked .lengths .pictures }
+
+    pub sequence-done : (r : Repeated) (source : Pack) (samples : List ℤ) (head : ℕ) (zs bs : List ℕ) → source ≡ asPack y count c → samples ≡ samplesOf count sound c → zs ≡ headBlocks y r h q
+        → bs ≡ take 480 (zs ++ postOf 0 head xs) ++ run (bankBlocks y source (r .asc) samples macroblocks h q) 9 → bs ≡ writtenSequence y (materialOf r count sound macroblocks) h q
+    sequence-done r source samples head zs bs eo ea ez eb =
+        let m : Material = materialOf r count sound macroblocks in
+        let long : length zs ≡ 480 = ap length (ez ∙ sym (head-places y m h q)) ∙ length-run 80 (writtenBlock y m h q) (Written.block-wide y m h q) 6 in
+        eb ∙ rw (take-at zs (postOf 0 head xs) 480 long, ez, eo, ea) (sym (sequence-is y m h q c (ec ∙ ap (λ (i : ℕ). audioAt i h q) es)))
+
+-- ---- the samples of an audio channel
+
+pub samples-lent : (sound : List ℤ) (c count : ℕ) → take ((c - 1) * count + count - (c - 1) * count) (drop ((c - 1) * count) sound) ≡ samplesOf count sound c
+unfolding samplesOf
+samples-lent sound c count = range-part ((c - 1) * count) count sound
+
+module _ (sound : List ℤ) (c count : ℕ) (asked : SamplesAsked sound c count) where
+  pub samples-within : (c - 1) * count + count ≤ length sound
+  samples-within = samples-end count sound c (asked .above) (asked .below) (asked .sounds)
+
+  pub samples-fit : Fits w64 ((c - 1) * count)
+  samples-fit = omega (arith, samples-within, asked .counted, asked .sounds)
+
+  pub samples-end-fits : Fits w64 ((c - 1) * count + count)
+  samples-end-fits = omega (arith, samples-within, asked .counted, asked .sounds)
+
+  pub samples-bytes-fit : Fits w64 ((c - 1) * count * 4)
+  samples-bytes-fit = omega (arith, samples-within, asked .counted, asked .sounds)
 
 -- ---- a DIF channel
 
-module _ (y : System) (h q : ℕ) (l : Contents) (d xs : List ℕ) (ex : Filled 12000 (writtenSequence y l h) q d xs) where
-  pub channel-turn : (ys : List ℕ) → ys ≡ writtenSequence y l h q → Filled 12000 (writtenSequence y l h) (q + 1) d (putMid (q * 12000) (q * 12000 + 12000 - q * 12000) xs ys)
-  channel-turn ys ey = filled-next 12000 (writtenSequence y l h) (sequence-wide y l h) q d xs ys ex ey
+module _ (y : System) (h q : ℕ) (m : Material) (d xs : List ℕ) (ex : Filled 12000 (writtenSequence y m h) q d xs) where
+  pub channel-turn : (ys : List ℕ) → ys ≡ writtenSequence y m h q → Filled 12000 (writtenSequence y m h) (q + 1) d (putMid (q * 12000) (q * 12000 + 12000 - q * 12000) xs ys)
+  channel-turn ys ey = filled-next 12000 (writtenSequence y m h) (sequence-wide y m h) q d xs ys ex ey
 
-  pub channel-done : (n : ℕ) → n ≡ sequencesOf y → length d ≡ sequencesOf y * 12000 → q ≤ sequencesOf y → n ≤ q → xs ≡ writtenChannel y l h
+  pub channel-done : (n : ℕ) → n ≡ sequencesOf y → length d ≡ sequencesOf y * 12000 → q ≤ sequencesOf y → n ≤ q → xs ≡ writtenChannel y m h
   unfolding writtenChannel
-  channel-done n en len le ge = filled-end 12000 (writtenSequence y l h) q (sequencesOf y) d xs ex len le (omega arith)
+  channel-done n en len le ge = filled-end 12000 (writtenSequence y m h) q (sequencesOf y) d xs ex len le (omega arith)
 
 -- sequence q of n is within the channel's part
 module _ (y : System) (q n : ℕ) (en : n ≡ sequencesOf y) (hq : q < n) where
@@ -300,9 +382,9 @@ module _ (y : System) (q n : ℕ) (en : n ≡ sequencesOf y) (hq : q < n) where
   pub sequence-next : q + 1 ≤ sequencesOf y
   sequence-next = omega arith
 
-  pub sequence-asked : (part xs : List ℕ) (h : ℕ) (l : Contents) → ChannelPartAsked part y h l → length xs ≡ length part
-      → PartAsked (take (q * 12000 + 12000 - q * 12000) (drop (q * 12000) xs)) 12000 y h q l
-  sequence-asked part xs h l a same = record {
+  pub sequence-asked : (part xs : List ℕ) (h count : ℕ) (sound : List ℤ) (macroblocks : List ℕ) → ChannelPartAsked part y h count sound macroblocks → length xs ≡ length part
+      → SequenceAsked (take (q * 12000 + 12000 - q * 12000) (drop (q * 12000) xs)) y h q count sound macroblocks
+  sequence-asked part xs h count sound macroblocks a same = record {
     long = ap length (range-part (q * 12000) 12000 xs) ∙ length-part (q * 12000) 12000 xs (omega (arith, same, a .long, end-within 12000 q (sequencesOf y) sequence-in));
     channel = a .channel;
     sequence = sequence-in;
@@ -311,18 +393,17 @@ module _ (y : System) (q n : ℕ) (en : n ≡ sequencesOf y) (hq : q < n) where
 
 -- ---- the frame
 
-module _ (y : System) (h n : ℕ) (en : n ≡ sequencesOf y) (l : Contents) (d xs : List ℕ) (ex : Filled (sequencesOf y * 12000) (writtenChannel y l) h d xs) where
-  pub frame-turn : (ys : List ℕ) → ys ≡ writtenChannel y l h
-      → Filled (sequencesOf y * 12000) (writtenChannel y l) (h + 1) d (putMid (h * (n * 12000)) (h * (n * 12000) + n * 12000 - h * (n * 12000)) xs ys)
-  frame-turn ys ey = rw en (filled-next (sequencesOf y * 12000) (writtenChannel y l) (channel-wide y l) h d xs ys ex ey)
+module _ (y : System) (h n : ℕ) (en : n ≡ sequencesOf y) (m : Material) (d xs : List ℕ) (ex : Filled (sequencesOf y * 12000) (writtenChannel y m) h d xs) where
+  pub frame-turn : (ys : List ℕ) → ys ≡ writtenChannel y m h
+      → Filled (sequencesOf y * 12000) (writtenChannel y m) (h + 1) d (putMid (h * (n * 12000)) (h * (n * 12000) + n * 12000 - h * (n * 12000)) xs ys)
+  frame-turn ys ey = rw en (filled-next (sequencesOf y * 12000) (writtenChannel y m) (channel-wide y m) h d xs ys ex ey)
 
-pub frame-none : (y : System) (l : Contents) (d : List ℕ) → Filled (sequencesOf y * 12000) (writtenChannel y l) 0 d d
-frame-none y l d = filled-none (sequencesOf y * 12000) (writtenChannel y l) d
+pub frame-none : (y : System) (m : Material) (d : List ℕ) → Filled (sequencesOf y * 12000) (writtenChannel y m) 0 d d
+frame-none y m d = filled-none (sequencesOf y * 12000) (writtenChannel y m) d
 
-pub frame-done : (y : System) (h : ℕ) (l : Contents) (d xs : List ℕ) → Filled (sequencesOf y * 12000) (writtenChannel y l) h d xs → length d ≡ 48000 * sequencesOf y → h ≤ 4 → 4 ≤ h
-    → xs ≡ writtenFrame y l
-unfolding writtenFrame
-frame-done y h l d xs ex len le ge = filled-end (sequencesOf y * 12000) (writtenChannel y l) h 4 d xs ex (omega arith) le ge
+pub frame-done : (y : System) (h : ℕ) (m : Material) (d xs : List ℕ) → Filled (sequencesOf y * 12000) (writtenChannel y m) h d xs → length d ≡ 48000 * sequencesOf y → h ≤ 4 → 4 ≤ h
+    → xs ≡ run (writtenChannel y m) 4
+frame-done y h m d xs ex len le ge = filled-end (sequencesOf y * 12000) (writtenChannel y m) h 4 d xs ex (omega arith) le ge
 
 -- DIF channel h is within the frame
 module _ (y : System) (h n : ℕ) (en : n ≡ sequencesOf y) where
@@ -339,13 +420,14 @@ module _ (y : System) (h n : ℕ) (en : n ≡ sequencesOf y) where
     pub end-fits : Fits w64 (h * (n * 12000) + n * 12000)
     end-fits = omega (arith, size-end, sequences-le y)
 
-    pub channel-within : (frame part : List ℕ) (l : Contents) → FrameAsked frame y l → length part ≡ length frame → h * (n * 12000) + n * 12000 ≤ length part
-    channel-within frame part l a same = omega (arith, size-end, a .long)
+    pub channel-within : (frame part : List ℕ) (count : ℕ) (sound : List ℤ) (macroblocks : List ℕ) → FrameAsked frame y count sound macroblocks → length part ≡ length frame
+        → h * (n * 12000) + n * 12000 ≤ length part
+    channel-within frame part count sound macroblocks a same = omega (arith, size-end, a .long)
 
-    pub channel-part-asked : (frame xs : List ℕ) (l : Contents) → FrameAsked frame y l → length xs ≡ length frame
-        → ChannelPartAsked (take (h * (n * 12000) + n * 12000 - h * (n * 12000)) (drop (h * (n * 12000)) xs)) y h l
-    channel-part-asked frame xs l a same = record {
-      long = ap length (range-part (h * (n * 12000)) (n * 12000) xs) ∙ length-part (h * (n * 12000)) (n * 12000) xs (channel-within frame xs l a same) ∙ ap (λ (i : ℕ). i * 12000) en;
+    pub channel-part-asked : (frame xs : List ℕ) (count : ℕ) (sound : List ℤ) (macroblocks : List ℕ) → FrameAsked frame y count sound macroblocks → length xs ≡ length frame
+        → ChannelPartAsked (take (h * (n * 12000) + n * 12000 - h * (n * 12000)) (drop (h * (n * 12000)) xs)) y h count sound macroblocks
+    channel-part-asked frame xs count sound macroblocks a same = record {
+      long = ap length (range-part (h * (n * 12000)) (n * 12000) xs) ∙ length-part (h * (n * 12000)) (n * 12000) xs (channel-within frame xs count sound macroblocks a same) ∙ ap (λ (i : ℕ). i * 12000) en;
       channel = hh;
       lengths = a .lengths;
     }
@@ -353,9 +435,10 @@ module _ (y : System) (h n : ℕ) (en : n ≡ sequencesOf y) where
 -- ---- the call
 
 -- what is in order has the lengths that the writers ask
-pub frame-asked : (k n : ℕ) (y : System) (r : SystemNumber) (l : Contents) (frame : List ℕ) → r ≡ systemOf k → r ≡ Known y → n ≡ writeNumber k l (length frame) → n ≡ 0 → FrameAsked frame y l
-frame-asked k n y r l frame er ey en z =
-    let t = taken-takes k l (length frame) y (sym er ∙ ey) (sym en ∙ z) in
+pub frame-asked : (k n : ℕ) (y : System) (r : SystemNumber) (count : ℕ) (sound : List ℤ) (macroblocks time group frame : List ℕ) → r ≡ systemOf k → r ≡ Known y
+    → n ≡ writeNumber k (contentsOf count sound macroblocks time group) (length frame) → n ≡ 0 → FrameAsked frame y count sound macroblocks
+frame-asked k n y r count sound macroblocks time group frame er ey en z =
+    let t = taken-takes k (contentsOf count sound macroblocks time group) (length frame) y (sym er ∙ ey) (sym en ∙ z) in
     record { long = t .frame; lengths = record { counts = t .counts; sounds = t .sounds; pictures = t .pictures } }
 
 -- a refusal, as the call leaves it
@@ -367,6 +450,7 @@ no-system k n l frame r er e en =
     let one : 1 ≡ writeNumber k l (length frame) = write-1 k l (length frame) (sym er ∙ e) in
     number-stops k n l frame en (omega arith)
 
-pub frame-left : (k n : ℕ) (y : System) (r : SystemNumber) (l : Contents) (frame frame′ : List ℕ) → r ≡ systemOf k → r ≡ Known y → n ≡ writeNumber k l (length frame) → n ≡ 0
-    → frame′ ≡ writtenFrame y l → Wrote k l frame 0 frame′
-frame-left k n y r l frame frame′ er ey en z e = write-done k y l frame frame′ n (sym er ∙ ey) en z e
+pub frame-left : (k n : ℕ) (y : System) (r : SystemNumber) (l : Contents) (frame frame′ : List ℕ) (repeated : Repeated) → r ≡ systemOf k → r ≡ Known y → n ≡ writeNumber k l (length frame) → n ≡ 0
+    → repeated ≡ repeatedOf y (l .timeCode) (l .binaryGroup) → frame′ ≡ run (writtenChannel y (materialOf repeated (l .count) (l .sound) (l .macroblocks))) 4 → Wrote k l frame 0 frame′
+unfolding writtenFrame
+frame-left k n y r l frame frame′ repeated er ey en z ep e = write-done k y l frame frame′ n (sym er ∙ ey) en z (e ∙ rw ep refl)

@@ -1,2 +1,2 @@
-pub mod Banks
+pub mod Blocks
 pub mod Asked

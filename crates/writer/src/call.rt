@@ -30,6 +30,7 @@ pub fn write_frame(
     let SystemNumber::Known(y) = layout::system_of(system) else {
         return number;
     };
-    frame::fill_frame(frame, y, count, sound, macroblocks, time_code, binary_group);
+    let repeated = packs::repeated(y, time_code, binary_group);
+    frame::fill_frame(frame, y, repeated, count, sound, macroblocks);
     0
 }

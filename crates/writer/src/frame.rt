@@ -1,26 +1,25 @@
 // The sequences of a DIF channel, and the DIF channels of a frame.
 ghost use mathlib.Core.Path.{_≡_};
-ghost use lib.ListN.{length};
-ghost use Rattle.rules_writes.specs.Written.{writtenChannel, writtenFrame};
-ghost use Rattle.rules_writes.specs.Write.{contentsOf};
+ghost use Rattle.base.specs.Run.{run};
+ghost use Rattle.rules_writes.specs.Written.{materialOf, writtenChannel};
 ghost use Rattle.writer.specs.Asked.{ChannelPartAsked, FrameAsked};
 use crate::sequence;
 use layout::CHANNELS;
 use layout::SEQUENCE;
+use paper::Repeated;
 use paper::System;
 
 fn write_channel(
     part: &mut [u8],
     y: System,
     h: u32,
+    repeated: Repeated,
     count: u32,
     sound: &[i32],
     macroblocks: &[u8],
-    time: &[u8],
-    group: &[u8],
 )
-    requires { ⌜ ChannelPartAsked (now part) y h (contentsOf count (now sound) (now macroblocks) (now time) (now group)) ⌝ }
-    ensures { λ _. ⌜ now (part .exit) ≡ writtenChannel y (contentsOf count (now (sound .entry)) (now (macroblocks .entry)) (now (time .entry)) (now (group .entry))) h ⌝ }
+    requires { ⌜ ChannelPartAsked (now part) y h count (now sound) (now macroblocks) ⌝ }
+    ensures { λ _. ⌜ now (part .exit) ≡ writtenChannel y (materialOf repeated count (now (sound .entry)) (now (macroblocks .entry))) h ⌝ }
 {
     let mut q: u32 = 0;
     while q < layout::sequences(y) {
@@ -31,11 +30,10 @@ fn write_channel(
             y,
             h,
             q,
+            repeated,
             count,
             sound,
             macroblocks,
-            time,
-            group,
         );
         q += 1;
     }
@@ -44,14 +42,13 @@ fn write_channel(
 pub(crate) fn fill_frame(
     frame: &mut [u8],
     y: System,
+    repeated: Repeated,
     count: u32,
     sound: &[i32],
     macroblocks: &[u8],
-    time: &[u8],
-    group: &[u8],
 )
-    requires { ⌜ FrameAsked (now frame) y (contentsOf count (now sound) (now macroblocks) (now time) (now group)) ⌝ }
-    ensures { λ _. ⌜ now (frame .exit) ≡ writtenFrame y (contentsOf count (now (sound .entry)) (now (macroblocks .entry)) (now (time .entry)) (now (group .entry))) ⌝ }
+    requires { ⌜ FrameAsked (now frame) y count (now sound) (now macroblocks) ⌝ }
+    ensures { λ _. ⌜ now (frame .exit) ≡ run (writtenChannel y (materialOf repeated count (now (sound .entry)) (now (macroblocks .entry)))) 4 ⌝ }
 {
     let size = (layout::sequences(y) as usize) * SEQUENCE;
     let mut h: u32 = 0;
@@ -62,11 +59,10 @@ pub(crate) fn fill_frame(
             &mut frame[at..to],
             y,
             h,
+            repeated,
             count,
             sound,
             macroblocks,
-            time,
-            group,
         );
         h += 1;
     }

@@ -4,11 +4,11 @@ use Rattle.blocks.proofs.Fitting.{audio-fit}
 use Rattle.blocks.proofs.audio.audio_fits.Statement.{statement}
 use Rattle.blocks.proofs.audio.audio_fits.Tie as tie
 
-sequences-requires : tie.Need-sequences-requires
-sequences-requires c κs = search needs
+half-requires : tie.Need-half-requires
+half-requires c κs = search needs
 
-is-count-requires : tie.Need-is-count-requires
-is-count-requires c κs = search needs
+cast-result : tie.Need-cast-result
+cast-result c = search needs
 
 mul-result : tie.Need-mul-result
 mul-result c = search needs
@@ -17,4 +17,4 @@ returns : tie.Need-returns
 returns c = search (audio-fit, needs)
 
 pub audio-fits-spec : {M : Type 1} → statement M
-audio-fits-spec = tie.close (tie.spec sequences-requires is-count-requires mul-result returns)
+audio-fits-spec = tie.close (tie.spec half-requires cast-result mul-result returns)

@@ -1,14 +1,8 @@
--- `blocks::audio::write_audio` meets its contract: the ID, the pack, and the words of the channel. Assumes nothing.
+-- `blocks::audio::write_audio` meets its contract: the ID, the pack and the words. Assumes nothing.
 use borrow.Author.Needs.{needs}
-use Rattle.blocks.proofs.Ways.{channel-asked, samples-asked, words-asked, audio-done}
+use Rattle.blocks.proofs.Ways.{samples-asked, audio-done}
 use Rattle.blocks.proofs.audio.write_audio.Statement.{statement}
 use Rattle.blocks.proofs.audio.write_audio.Tie as tie
-
-half-requires : tie.Need-half-requires
-half-requires c κs = search needs
-
-audio-at-requires : tie.Need-audio-at-requires
-audio-at-requires c κs = search (channel-asked, needs)
 
 sub-put-id : tie.Need-sub-put-id
 sub-put-id c = search needs
@@ -37,32 +31,17 @@ aaux-pack-requires c κs = search needs
 put-pack-requires : tie.Need-put-pack-requires
 put-pack-requires c κs = search needs
 
-sub-put-words : tie.Need-sub-put-words
-sub-put-words c = search needs
+sub-put-samples : tie.Need-sub-put-samples
+sub-put-samples c = search needs
 
-part-put-words-start : tie.Need-part-put-words-start
-part-put-words-start c = search needs
+part-put-samples-start : tie.Need-part-put-samples-start
+part-put-samples-start c = search needs
 
-part-put-words-end : tie.Need-part-put-words-end
-part-put-words-end c = search needs
+part-put-samples-end : tie.Need-part-put-samples-end
+part-put-samples-end c = search needs
 
-samples-of-requires : tie.Need-samples-of-requires
-samples-of-requires c κs = search (samples-asked, needs)
-
-first-at-requires : tie.Need-first-at-requires
-first-at-requires c κs = search needs
-
-cast-put-words : tie.Need-cast-put-words
-cast-put-words c = search needs
-
-cast-put-words-2 : tie.Need-cast-put-words-2
-cast-put-words-2 c = search needs
-
-mul-put-words : tie.Need-mul-put-words
-mul-put-words c = search needs
-
-put-words-requires : tie.Need-put-words-requires
-put-words-requires c κs = search (words-asked, needs)
+put-samples-requires : tie.Need-put-samples-requires
+put-samples-requires c κs = search (samples-asked, needs)
 
 same-length : tie.Need-same-length
 same-length c = search needs
@@ -74,8 +53,6 @@ pub write-audio-spec : {M : Type 1} → statement M
 write-audio-spec =
     tie.close
     (tie.spec
-    half-requires
-    audio-at-requires
     sub-put-id
     part-put-id-start
     part-put-id-end
@@ -85,14 +62,9 @@ write-audio-spec =
     part-put-pack-end
     aaux-pack-requires
     put-pack-requires
-    sub-put-words
-    part-put-words-start
-    part-put-words-end
-    samples-of-requires
-    first-at-requires
-    cast-put-words
-    cast-put-words-2
-    mul-put-words
-    put-words-requires
+    sub-put-samples
+    part-put-samples-start
+    part-put-samples-end
+    put-samples-requires
     same-length
     returns)

@@ -10,10 +10,10 @@ use Rattle.blocks.proofs.subcode.put_ssybs.Statement.{statement}
 use Rattle.blocks.proofs.subcode.put_ssybs.Tie as tie
 
 abbrev Inv-loop : tie.InvT-loop
-Inv-loop part₀ first time group k j₀ part j = Filled 8 (ssyb-at first time group k) j part₀ part × (length part ≡ length part₀) × (j ≤ 6)
+Inv-loop part₀ first said k j₀ part j = Filled 8 (ssyb-at first said k) j part₀ part × (length part ≡ length part₀) × (j ≤ 6)
 
 abbrev μ-loop : tie.MeasureT-loop
-μ-loop part₀ first time group k j₀ part j = 6 - j
+μ-loop part₀ first said k j₀ part j = 6 - j
 
 loop-holds : tie.Need-loop-holds Inv-loop μ-loop
 loop-holds c = (filled-none 8 _ _, refl, omega arith)

@@ -28,12 +28,6 @@ part-put-ssybs-start c = search needs
 part-put-ssybs-end : tie.Need-part-put-ssybs-end
 part-put-ssybs-end c = search needs
 
-pack-of-requires : tie.Need-pack-of-requires
-pack-of-requires c κs = search needs
-
-pack-of-requires-2 : tie.Need-pack-of-requires-2
-pack-of-requires-2 c κs = search needs
-
 put-ssybs-requires : tie.Need-put-ssybs-requires
 put-ssybs-requires c κs = search needs
 
@@ -55,8 +49,6 @@ write-subcode-spec =
     sub-put-ssybs
     part-put-ssybs-start
     part-put-ssybs-end
-    pack-of-requires
-    pack-of-requires-2
     put-ssybs-requires
     same-length
     returns)

@@ -10,10 +10,10 @@ use Rattle.blocks.proofs.vaux.put_packs.Statement.{statement}
 use Rattle.blocks.proofs.vaux.put_packs.Tie as tie
 
 abbrev Inv-loop : tie.InvT-loop
-Inv-loop part₀ y q k j₀ part j = Filled 5 (pack-at y q k) j part₀ part × (length part ≡ length part₀) × (j ≤ 15)
+Inv-loop part₀ vs vsc q k j₀ part j = Filled 5 (pack-at vs vsc q k) j part₀ part × (length part ≡ length part₀) × (j ≤ 15)
 
 abbrev μ-loop : tie.MeasureT-loop
-μ-loop part₀ y q k j₀ part j = 15 - j
+μ-loop part₀ vs vsc q k j₀ part j = 15 - j
 
 loop-holds : tie.Need-loop-holds Inv-loop μ-loop
 loop-holds c = (filled-none 5 _ _, refl, omega arith)

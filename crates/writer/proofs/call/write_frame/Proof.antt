@@ -23,6 +23,9 @@ enum-told c = search needs
 returns-2 : tie.Need-returns-2
 returns-2 c = search (no-system, needs)
 
+repeated-requires : tie.Need-repeated-requires
+repeated-requires c κs = search needs
+
 fill-frame-requires : tie.Need-fill-frame-requires
 fill-frame-requires c κs = search (frame-asked, needs)
 
@@ -42,6 +45,7 @@ write-frame-spec =
     enum-known-y
     enum-told
     returns-2
+    repeated-requires
     fill-frame-requires
     same-length
     returns-3)

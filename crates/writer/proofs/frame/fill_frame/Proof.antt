@@ -6,17 +6,16 @@ use lib.ListN.{length}
 use borrow.Author.Needs.{needs}
 use Rattle.base.proofs.Filling.{Filled}
 use Rattle.rules_format.specs.Systems.{sequencesOf}
-use Rattle.rules_writes.specs.Written.{writtenChannel}
-use Rattle.rules_writes.specs.Write.{contentsOf}
+use Rattle.rules_writes.specs.Written.{materialOf, writtenChannel}
 use Rattle.writer.proofs.Whole.{size-fits, start-fits, end-fits, channel-within, channel-part-asked, frame-none, frame-turn, frame-done}
 use Rattle.writer.proofs.frame.fill_frame.Statement.{statement}
 use Rattle.writer.proofs.frame.fill_frame.Tie as tie
 
 abbrev Inv-loop : tie.InvT-loop
-Inv-loop frame₀ y count sound macroblocks time group size h₀ frame h = Filled (sequencesOf y * 12000) (writtenChannel y (contentsOf count sound macroblocks time group)) h frame₀ frame × (length frame ≡ length frame₀) × (h ≤ 4)
+Inv-loop frame₀ y repeated count sound macroblocks size h₀ frame h = Filled (sequencesOf y * 12000) (writtenChannel y (materialOf repeated count sound macroblocks)) h frame₀ frame × (length frame ≡ length frame₀) × (h ≤ 4)
 
 abbrev μ-loop : tie.MeasureT-loop
-μ-loop frame₀ y count sound macroblocks time group size h₀ frame h = 4 - h
+μ-loop frame₀ y repeated count sound macroblocks size h₀ frame h = 4 - h
 
 sequences-requires : tie.Need-sequences-requires Inv-loop μ-loop
 sequences-requires c κs = search needs

@@ -6,17 +6,16 @@ use lib.ListN.{length}
 use borrow.Author.Needs.{needs}
 use Rattle.base.proofs.Filling.{Filled, filled-none}
 use Rattle.rules_format.specs.Systems.{sequencesOf}
-use Rattle.rules_writes.specs.Written.{writtenSequence}
-use Rattle.rules_writes.specs.Write.{contentsOf}
+use Rattle.rules_writes.specs.Written.{materialOf, writtenSequence}
 use Rattle.writer.proofs.Whole.{sequence-next, sequence-asked, channel-turn, channel-done}
 use Rattle.writer.proofs.frame.write_channel.Statement.{statement}
 use Rattle.writer.proofs.frame.write_channel.Tie as tie
 
 abbrev Inv-loop : tie.InvT-loop
-Inv-loop part₀ y h count sound macroblocks time group q₀ part q = Filled 12000 (writtenSequence y (contentsOf count sound macroblocks time group) h) q part₀ part × (length part ≡ length part₀) × (q ≤ sequencesOf y)
+Inv-loop part₀ y h repeated count sound macroblocks q₀ part q = Filled 12000 (writtenSequence y (materialOf repeated count sound macroblocks) h) q part₀ part × (length part ≡ length part₀) × (q ≤ sequencesOf y)
 
 abbrev μ-loop : tie.MeasureT-loop
-μ-loop part₀ y h count sound macroblocks time group q₀ part q = sequencesOf y - q
+μ-loop part₀ y h repeated count sound macroblocks q₀ part q = sequencesOf y - q
 
 loop-holds : tie.Need-loop-holds Inv-loop μ-loop
 loop-holds c = (filled-none 12000 _ _, refl, omega arith)

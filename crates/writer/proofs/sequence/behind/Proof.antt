@@ -7,8 +7,8 @@ use Rattle.writer.proofs.sequence.behind.Tie as tie
 place-in-requires : tie.Need-place-in-requires
 place-in-requires c κs = search needs
 
-add-t5 : tie.Need-add-t5
-add-t5 c = search (behind-fits, needs)
+add-t6 : tie.Need-add-t6
+add-t6 c = search (behind-fits, needs)
 
 entry-at-requires : tie.Need-entry-at-requires
 entry-at-requires c κs = search needs
@@ -17,4 +17,4 @@ returns : tie.Need-returns
 returns c = search (behind-is, needs)
 
 pub behind-spec : {M : Type 1} → statement M
-behind-spec = tie.close (tie.spec place-in-requires add-t5 entry-at-requires returns)
+behind-spec = tie.close (tie.spec place-in-requires add-t6 entry-at-requires returns)

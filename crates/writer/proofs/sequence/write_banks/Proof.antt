@@ -1,23 +1,21 @@
 -- `writer::sequence::write_banks` meets its contract: bank by bank, each from its place on. Assumes nothing.
 use mathlib.Core.Path.{_≡_, refl}
-use Prim.Native.Nat.{_+_, _-_, _*_, _≤_}
+use Prim.Native.Nat.{_-_, _≤_}
 use native.Mathlib.Omega.{arith}
 use lib.ListN.{length}
 use borrow.Author.Needs.{needs}
-use Rattle.rules_writes.specs.Write.{contentsOf}
-use Rattle.writer.specs.Asked.{Begun}
-use Rattle.writer.proofs.Whole.{bank-ends, bank-asked, banks-turn, banks-done}
+use Rattle.writer.proofs.Whole.{FilledFrom, from-none, bank-at, bank-ends, bank-asked, banks-turn, banks-done}
 use Rattle.writer.proofs.sequence.write_banks.Statement.{statement}
 use Rattle.writer.proofs.sequence.write_banks.Tie as tie
 
 abbrev Inv-loop : tie.InvT-loop
-Inv-loop part₀ y h q count sound macroblocks time group a₀ part a = Begun part y h q (contentsOf count sound macroblocks time group) (6 + 16 * a) × (length part ≡ length part₀) × (a ≤ 9)
+Inv-loop part₀ y h q source asc samples macroblocks a₀ part a = FilledFrom 480 1280 (bank-at y h q source asc samples macroblocks) a part₀ part × (length part ≡ length part₀) × (a ≤ 9)
 
 abbrev μ-loop : tie.MeasureT-loop
-μ-loop part₀ y h q count sound macroblocks time group a₀ part a = 9 - a
+μ-loop part₀ y h q source asc samples macroblocks a₀ part a = 9 - a
 
 loop-holds : tie.Need-loop-holds Inv-loop μ-loop
-loop-holds c = (search needs, refl, omega arith)
+loop-holds c = (from-none 480 1280 _ _, refl, omega arith)
 
 place-in-requires : tie.Need-place-in-requires Inv-loop μ-loop
 place-in-requires c κs = search needs

@@ -1,26 +1,25 @@
--- `writer::sequence::write_vauxes` meets its contract: each block in its turn, at its place. Assumes nothing.
+-- `writer::sequence::write_vauxes` meets its contract: the first blocks are written, and the rest is as it was. Assumes nothing.
 use mathlib.Core.Path.{_≡_, refl}
-use Prim.Native.Nat.{_+_, _-_, _≤_}
+use Prim.Native.Nat.{_-_, _≤_}
 use native.Mathlib.Omega.{arith}
 use lib.ListN.{length}
 use borrow.Author.Needs.{needs}
-use Rattle.rules_writes.specs.Write.{contentsOf}
-use Rattle.writer.specs.Asked.{Begun}
-use Rattle.writer.proofs.Whole.{vaux-ends, vauxes-turn, vauxes-done}
+use Rattle.base.proofs.Filling.{Filled, filled-none}
+use Rattle.paper.specs.declared.Section.the-variants.{Vaux}
+use Rattle.rules_packs.specs.Vaux.{vauxBytes}
+use Rattle.writer.specs.Blocks.{blockOf}
+use Rattle.writer.proofs.Whole.{vauxes-turn, vauxes-done}
 use Rattle.writer.proofs.sequence.write_vauxes.Statement.{statement}
 use Rattle.writer.proofs.sequence.write_vauxes.Tie as tie
 
 abbrev Inv-loop : tie.InvT-loop
-Inv-loop part₀ y h q count sound macroblocks time group k₀ part k = Begun part y h q (contentsOf count sound macroblocks time group) (3 + k) × (length part ≡ length part₀) × (k ≤ 3)
+Inv-loop part₀ h q vs vsc k₀ part k = Filled 80 (blockOf h q Vaux (vauxBytes vs vsc q)) k part₀ part × (length part ≡ length part₀) × (k ≤ 3)
 
 abbrev μ-loop : tie.MeasureT-loop
-μ-loop part₀ y h q count sound macroblocks time group k₀ part k = 3 - k
+μ-loop part₀ h q vs vsc k₀ part k = 3 - k
 
 loop-holds : tie.Need-loop-holds Inv-loop μ-loop
-loop-holds c = (search needs, refl, omega arith)
-
-place-in-requires : tie.Need-place-in-requires Inv-loop μ-loop
-place-in-requires c κs = search needs
+loop-holds c = (filled-none 80 _ _, refl, omega arith)
 
 cast-at : tie.Need-cast-at Inv-loop μ-loop
 cast-at c = search needs
@@ -38,7 +37,7 @@ part-put-vaux-start : tie.Need-part-put-vaux-start Inv-loop μ-loop
 part-put-vaux-start c = search needs
 
 part-put-vaux-end : tie.Need-part-put-vaux-end Inv-loop μ-loop
-part-put-vaux-end c = search (vaux-ends, needs)
+part-put-vaux-end c = search needs
 
 id-requires : tie.Need-id-requires Inv-loop μ-loop
 id-requires c κs = search needs
@@ -68,7 +67,6 @@ write-vauxes-spec =
     Inv-loop
     μ-loop
     loop-holds
-    place-in-requires
     cast-at
     mul-at
     add-to

@@ -10,10 +10,10 @@ use Rattle.writer.proofs.sequence.write_videos.Statement.{statement}
 use Rattle.writer.proofs.sequence.write_videos.Tie as tie
 
 abbrev Inv-loop : tie.InvT-loop
-Inv-loop part₀ y h q count sound macroblocks time group v j₀ part j = Filled 80 (video-in y h q count sound macroblocks time group v) j part₀ part × (length part ≡ length part₀) × (j ≤ 15)
+Inv-loop part₀ y h q v macroblocks j₀ part j = Filled 80 (video-in y macroblocks h q v) j part₀ part × (length part ≡ length part₀) × (j ≤ 15)
 
 abbrev μ-loop : tie.MeasureT-loop
-μ-loop part₀ y h q count sound macroblocks time group v j₀ part j = 15 - j
+μ-loop part₀ y h q v macroblocks j₀ part j = 15 - j
 
 loop-holds : tie.Need-loop-holds Inv-loop μ-loop
 loop-holds c = (filled-none 80 _ _, refl, omega arith)
@@ -27,9 +27,6 @@ mul-at c = search needs
 add-to : tie.Need-add-to Inv-loop μ-loop
 add-to c = search needs
 
-add-t18 : tie.Need-add-t18 Inv-loop μ-loop
-add-t18 c = search needs
-
 sub-put-video : tie.Need-sub-put-video Inv-loop μ-loop
 sub-put-video c = search needs
 
@@ -38,6 +35,9 @@ part-put-video-start c = search needs
 
 part-put-video-end : tie.Need-part-put-video-end Inv-loop μ-loop
 part-put-video-end c = search needs
+
+add-id : tie.Need-add-id Inv-loop μ-loop
+add-id c = search needs
 
 id-requires : tie.Need-id-requires Inv-loop μ-loop
 id-requires c κs = search needs
@@ -70,10 +70,10 @@ write-videos-spec =
     cast-at
     mul-at
     add-to
-    add-t18
     sub-put-video
     part-put-video-start
     part-put-video-end
+    add-id
     id-requires
     put-video-requires
     add-j

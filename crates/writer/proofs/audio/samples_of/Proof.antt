@@ -1,8 +1,8 @@
--- `blocks::audio::samples_of` meets its contract: the part is within the sound. Assumes nothing.
+-- `writer::audio::samples_of` meets its contract: the part is within the sound. Assumes nothing.
 use borrow.Author.Needs.{needs}
-use Rattle.blocks.proofs.Ways.{samples-lent, samples-within, samples-fit, samples-end-fits, samples-bytes-fit}
-use Rattle.blocks.proofs.audio.samples_of.Statement.{statement}
-use Rattle.blocks.proofs.audio.samples_of.Tie as tie
+use Rattle.writer.proofs.Whole.{samples-lent, samples-within, samples-fit, samples-end-fits, samples-bytes-fit}
+use Rattle.writer.proofs.audio.samples_of.Statement.{statement}
+use Rattle.writer.proofs.audio.samples_of.Tie as tie
 
 sub-at : tie.Need-sub-at
 sub-at c = search needs

@@ -1,9 +1,9 @@
--- `blocks::audio::audio_at` meets its contract: it is 8 at most. Assumes nothing.
+-- `writer::audio::audio_at` meets its contract: it is 8 at most. Assumes nothing.
 use native.Mathlib.Omega.{arith}
 use borrow.Author.Needs.{needs}
 use Rattle.rules_format.proofs.Sound.{audio-within}
-use Rattle.blocks.proofs.audio.audio_at.Statement.{statement}
-use Rattle.blocks.proofs.audio.audio_at.Tie as tie
+use Rattle.writer.proofs.audio.audio_at.Statement.{statement}
+use Rattle.writer.proofs.audio.audio_at.Tie as tie
 
 mul-result : tie.Need-mul-result
 mul-result c = search needs
