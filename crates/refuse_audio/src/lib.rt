@@ -10,17 +10,14 @@ use paper::SystemNumber;
 fn sound_number(y: System, frame: &[u8], audio: u32) -> u32
     ensures { λ r. ⌜ r ≡ firstOf (audioRows y (now (frame .entry)) audio) ⌝ }
 {
-    let unmarked = judges::every_sequence(y, frame, Test::Unflagged(1));
-    let kept = judges::every_in_half(y, frame, audio, Test::AsKeeps(audio));
-    let count = judges::count_for(y, frame, audio);
-    let same = judges::every_in_half(y, frame, audio, Test::CountIs(count));
-    if !unmarked {
+    if !judges::every_sequence(y, frame, Test::Unflagged(1)) {
         return 23;
     }
-    if !kept {
+    if !judges::every_in_half(y, frame, audio, Test::AsKeeps(audio)) {
         return 24;
     }
-    if !same {
+    let count = judges::count_for(y, frame, audio);
+    if !judges::every_in_half(y, frame, audio, Test::CountIs(count)) {
         return 25;
     }
     0
@@ -39,16 +36,15 @@ pub fn audio_number(system: u32, frame: &[u8], audio: u32, size: usize) -> u32
     if !whole {
         return 2;
     }
-    let number = refuse_check::checked(y, frame);
-    let own = sound_number(y, frame, audio);
     if !within {
         return 3;
     }
     if !room {
         return 4;
     }
+    let number = refuse_check::checked(y, frame);
     if number != 0 {
         return number;
     }
-    own
+    sound_number(y, frame, audio)
 }

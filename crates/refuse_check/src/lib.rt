@@ -14,12 +14,10 @@ pub fn checked(y: System, frame: &[u8]) -> u32
     if fault != 0 {
         return fault;
     }
-    let dsf = judges::every_sequence(y, frame, Test::Dsf);
-    let vs = judges::every_sequence(y, frame, Test::Vs);
-    if !dsf {
+    if !judges::every_sequence(y, frame, Test::Dsf) {
         return 21;
     }
-    if !vs {
+    if !judges::every_sequence(y, frame, Test::Vs) {
         return 22;
     }
     0

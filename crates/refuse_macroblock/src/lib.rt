@@ -10,8 +10,7 @@ use paper::SystemNumber;
 fn picture_number(y: System, frame: &[u8]) -> u32
     ensures { λ r. ⌜ r ≡ firstOf (pictureRows y (now (frame .entry))) ⌝ }
 {
-    let unmarked = judges::every_sequence(y, frame, Test::Unflagged(2));
-    if !unmarked {
+    if !judges::every_sequence(y, frame, Test::Unflagged(2)) {
         return 23;
     }
     0
@@ -29,13 +28,12 @@ pub fn macroblock_number(system: u32, frame: &[u8], b: u32) -> u32
     if !whole {
         return 2;
     }
-    let refusal = refuse_check::checked(y, frame);
-    let own = picture_number(y, frame);
     if !within {
         return 3;
     }
+    let refusal = refuse_check::checked(y, frame);
     if refusal != 0 {
         return refusal;
     }
-    own
+    picture_number(y, frame)
 }

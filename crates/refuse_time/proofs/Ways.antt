@@ -21,12 +21,12 @@ use Rattle.refuse_check.proofs.Ways.{whole-number}
 
 -- ---- clock_number
 
-module _ (y : System) (frame : List ℕ) (time group : Pack) (et : time ≡ timeFirst y frame) (eg : group ≡ groupFirst y frame)
-    (a : Bool) (ea : a ≡ everySequence y frame (unflagged 3)) where
+module _ (y : System) (frame : List ℕ) (a : Bool) (ea : a ≡ everySequence y frame (unflagged 3)) where
   pub clock-23 : not a ≡ true → 23 ≡ firstOf (timeRows y frame)
   clock-23 e = time-23 y frame (sym ea ∙ not-true _ e)
 
-  module _ (oa : not a ≡ false) (t g : Bool) (ett : t ≡ timeOk y time) (egg : g ≡ groupOk group) where
+  module _ (oa : not a ≡ false) (time group : Pack) (et : time ≡ timeFirst y frame) (eg : group ≡ groupFirst y frame)
+      (t g : Bool) (ett : t ≡ timeOk y time) (egg : g ≡ groupOk group) where
     right : (timeOk y (timeFirst y frame) && groupOk (groupFirst y frame)) ≡ (t && g)
     right = rw (ett, egg, et, eg) refl
 

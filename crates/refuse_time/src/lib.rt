@@ -10,18 +10,15 @@ use paper::SystemNumber;
 fn clock_number(y: System, frame: &[u8]) -> u32
     ensures { λ r. ⌜ r ≡ firstOf (timeRows y (now (frame .entry))) ⌝ }
 {
-    let time = judges::time_first(y, frame);
-    let group = judges::group_first(y, frame);
-    let unmarked = judges::every_sequence(y, frame, Test::Unflagged(3));
-    let right = packs::time_ok(y, time) & packs::group_ok(group);
-    let same = judges::every_sequence(y, frame, Test::Subcode(time, group));
-    if !unmarked {
+    if !judges::every_sequence(y, frame, Test::Unflagged(3)) {
         return 23;
     }
-    if !right {
+    let time = judges::time_first(y, frame);
+    let group = judges::group_first(y, frame);
+    if !(packs::time_ok(y, time) & packs::group_ok(group)) {
         return 26;
     }
-    if !same {
+    if !judges::every_sequence(y, frame, Test::Subcode(time, group)) {
         return 27;
     }
     0
@@ -38,9 +35,8 @@ pub fn time_number(system: u32, frame: &[u8]) -> u32
         return 2;
     }
     let number = refuse_check::checked(y, frame);
-    let own = clock_number(y, frame);
     if number != 0 {
         return number;
     }
-    own
+    clock_number(y, frame)
 }

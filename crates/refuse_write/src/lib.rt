@@ -1,6 +1,6 @@
-// What the writer is lent: its refusals in their order, each condition known before the first number is given.
+// What the writer is lent: its refusals in their order.
 ghost use mathlib.Core.Path.{_≡_};
-ghost use Rattle.rules_writes.specs.Write.{contentsOf, lengthsOk, writeNumber};
+ghost use Rattle.rules_writes.specs.Write.{contentsOf, lengthsFit, writeNumber};
 use paper::System;
 use paper::SystemNumber;
 
@@ -13,7 +13,7 @@ fn lengths_ok(
     time: &[u8],
     group: &[u8],
 ) -> bool
-    ensures { λ r. ⌜ r ≡ lengthsOk (contentsOf count (now (sound .entry)) (now (macroblocks .entry)) (now (time .entry)) (now (group .entry))) y ⌝ }
+    ensures { λ r. ⌜ r ≡ lengthsFit y count (now (sound .entry)) (now (macroblocks .entry)) (now (time .entry)) (now (group .entry)) ⌝ }
 {
     (sound.len() == 8 * (count as usize))
         & (macroblocks.len() == 77 * (layout::macroblocks(y) as usize))
@@ -39,8 +39,6 @@ pub fn refusal(
     let whole = size == layout::frame_bytes(y);
     let counted = layout::is_count(y, count);
     let lengths = lengths_ok(y, count, sound, macroblocks, time, group);
-    let sampled = sound::all_in_range(sound);
-    let timed = packs::time_taken(y, packs::pack_of(0x13, time));
     if !whole {
         return 2;
     }
@@ -50,10 +48,10 @@ pub fn refusal(
     if !lengths {
         return 4;
     }
-    if !sampled {
+    if !sound::all_in_range(sound) {
         return 31;
     }
-    if !timed {
+    if !packs::time_taken(y, packs::pack_of(0x13, time)) {
         return 32;
     }
     0

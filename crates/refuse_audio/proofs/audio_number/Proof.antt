@@ -58,9 +58,9 @@ audio-number-spec =
     positions-requires
     cast-room
     returns-2
-    checked-requires
-    sound-number-requires
     returns-3
     returns-4
+    checked-requires
     returns-5
+    sound-number-requires
     returns-6)

@@ -7,20 +7,20 @@ use Rattle.refuse_audio.proofs.sound_number.Tie as tie
 every-sequence-requires : tie.Need-every-sequence-requires
 every-sequence-requires c κs = search needs
 
+returns : tie.Need-returns
+returns c = search (sound-23, needs)
+
 every-in-half-requires : tie.Need-every-in-half-requires
 every-in-half-requires c κs = search needs
+
+returns-2 : tie.Need-returns-2
+returns-2 c = search (sound-24, needs)
 
 count-for-requires : tie.Need-count-for-requires
 count-for-requires c κs = search needs
 
 every-in-half-requires-2 : tie.Need-every-in-half-requires-2
 every-in-half-requires-2 c κs = search needs
-
-returns : tie.Need-returns
-returns c = search (sound-23, needs)
-
-returns-2 : tie.Need-returns-2
-returns-2 c = search (sound-24, needs)
 
 returns-3 : tie.Need-returns-3
 returns-3 c = search (sound-25, needs)
@@ -33,10 +33,10 @@ sound-number-spec =
     tie.close
     (tie.spec
     every-sequence-requires
+    returns
     every-in-half-requires
+    returns-2
     count-for-requires
     every-in-half-requires-2
-    returns
-    returns-2
     returns-3
     returns-4)

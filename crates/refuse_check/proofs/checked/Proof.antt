@@ -13,11 +13,11 @@ returns c = search (checked-fault, needs)
 every-sequence-requires : tie.Need-every-sequence-requires
 every-sequence-requires c κs = search needs
 
-every-sequence-requires-2 : tie.Need-every-sequence-requires-2
-every-sequence-requires-2 c κs = search needs
-
 returns-2 : tie.Need-returns-2
 returns-2 c = search (checked-21, needs)
+
+every-sequence-requires-2 : tie.Need-every-sequence-requires-2
+every-sequence-requires-2 c κs = search needs
 
 returns-3 : tie.Need-returns-3
 returns-3 c = search (checked-22, needs)
@@ -32,7 +32,7 @@ checked-spec =
     first-fault-requires
     returns
     every-sequence-requires
-    every-sequence-requires-2
     returns-2
+    every-sequence-requires-2
     returns-3
     returns-4)

@@ -51,8 +51,8 @@ macroblock-number-spec =
     frame-bytes-requires
     macroblocks-requires
     returns-2
-    checked-requires
-    picture-number-requires
     returns-3
+    checked-requires
     returns-4
+    picture-number-requires
     returns-5)

@@ -4,14 +4,17 @@ use Rattle.refuse_time.proofs.Ways.{clock-23, clock-26, clock-27, clock
 use Rattle.refuse_time.proofs.clock_number.Statement.{statement}
 use Rattle.refuse_time.proofs.clock_number.Tie as tie
 
+every-sequence-requires : tie.Need-every-sequence-requires
+every-sequence-requires c κs = search needs
+
+returns : tie.Need-returns
+returns c = search (clock-23, needs)
+
 time-first-requires : tie.Need-time-first-requires
 time-first-requires c κs = search needs
 
 group-first-requires : tie.Need-group-first-requires
 group-first-requires c κs = search needs
-
-every-sequence-requires : tie.Need-every-sequence-requires
-every-sequence-requires c κs = search needs
 
 time-ok-requires : tie.Need-time-ok-requires
 time-ok-requires c κs = search needs
@@ -19,14 +22,11 @@ time-ok-requires c κs = search needs
 group-ok-requires : tie.Need-group-ok-requires
 group-ok-requires c κs = search needs
 
-every-sequence-requires-2 : tie.Need-every-sequence-requires-2
-every-sequence-requires-2 c κs = search needs
-
-returns : tie.Need-returns
-returns c = search (clock-23, needs)
-
 returns-2 : tie.Need-returns-2
 returns-2 c = search (clock-26, needs)
+
+every-sequence-requires-2 : tie.Need-every-sequence-requires-2
+every-sequence-requires-2 c κs = search needs
 
 returns-3 : tie.Need-returns-3
 returns-3 c = search (clock-27, needs)
@@ -38,13 +38,13 @@ pub clock-number-spec : {M : Type 1} → statement M
 clock-number-spec =
     tie.close
     (tie.spec
+    every-sequence-requires
+    returns
     time-first-requires
     group-first-requires
-    every-sequence-requires
     time-ok-requires
     group-ok-requires
-    every-sequence-requires-2
-    returns
     returns-2
+    every-sequence-requires-2
     returns-3
     returns-4)

@@ -45,6 +45,6 @@ time-number-spec =
     frame-bytes-requires
     returns-2
     checked-requires
-    clock-number-requires
     returns-3
+    clock-number-requires
     returns-4)

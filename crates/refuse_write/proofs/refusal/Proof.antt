@@ -25,15 +25,6 @@ is-count-requires c κs = search needs
 lengths-ok-requires : tie.Need-lengths-ok-requires
 lengths-ok-requires c κs = search needs
 
-all-in-range-requires : tie.Need-all-in-range-requires
-all-in-range-requires c κs = search needs
-
-pack-of-requires : tie.Need-pack-of-requires
-pack-of-requires c κs = search needs
-
-time-taken-requires : tie.Need-time-taken-requires
-time-taken-requires c κs = search needs
-
 returns-2 : tie.Need-returns-2
 returns-2 c = search (way-2, needs)
 
@@ -43,8 +34,17 @@ returns-3 c = search (way-3, needs)
 returns-4 : tie.Need-returns-4
 returns-4 c = search (way-4, needs)
 
+all-in-range-requires : tie.Need-all-in-range-requires
+all-in-range-requires c κs = search needs
+
 returns-5 : tie.Need-returns-5
 returns-5 c = search (way-31, needs)
+
+pack-of-requires : tie.Need-pack-of-requires
+pack-of-requires c κs = search needs
+
+time-taken-requires : tie.Need-time-taken-requires
+time-taken-requires c κs = search needs
 
 returns-6 : tie.Need-returns-6
 returns-6 c = search (way-32, needs)
@@ -63,12 +63,12 @@ refusal-spec =
     frame-bytes-requires
     is-count-requires
     lengths-ok-requires
-    all-in-range-requires
-    pack-of-requires
-    time-taken-requires
     returns-2
     returns-3
     returns-4
+    all-in-range-requires
     returns-5
+    pack-of-requires
+    time-taken-requires
     returns-6
     returns-7)
