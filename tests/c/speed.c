@@ -82,7 +82,12 @@ static void take_time(struct dv100_time answer)
     {                                                                                                                             \
         take_audio(side##_read_audio(own->system, frame, own->frame_length, 4, samples, own->positions));                          \
     }                                                                                                                             \
+    static void side##_read_audio_refused_row(void)                                                                               \
+    {                                                                                                                             \
+        take_audio(side##_read_audio(own->system, frame, own->frame_length, 9, samples, own->positions));                         \
+    }                                                                                                                             \
     static void side##_macroblock_row(void) { take_part(side##_macroblock(own->system, frame, own->frame_length, 1234)); }        \
+    static void side##_macroblock_refused_row(void) { take_part(side##_macroblock(own->system, frame, own->frame_length, 6075)); }\
     static void side##_read_time_row(void) { take_time(side##_read_time(own->system, frame, own->frame_length)); }                \
     static void side##_salvage_row(void)                                                                                          \
     {                                                                                                                             \
@@ -121,7 +126,9 @@ static const struct {
     ROW("check, block 7 damaged", check_damaged),
     ROW("check, all blocks zeroed", check_blank),
     ROW("read_audio", read_audio),
+    ROW("read_audio, channel 9 refused", read_audio_refused),
     ROW("macroblock", macroblock),
+    ROW("macroblock, number 6,075 refused", macroblock_refused),
     ROW("read_time", read_time),
     ROW("salvage", salvage),
     ROW("salvage, 28 blocks damaged", salvage_damaged),
