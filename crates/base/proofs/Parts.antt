@@ -1,11 +1,11 @@
 -- Parts of a list, as a range of a slice lends them. Assumes nothing.
 use mathlib.Core.Path.{_≡_, ap, _∙_}
-use mathlib.Core.List.{List, [], _∷_}
+use mathlib.Core.List.{List, [], _∷_, _++_, append-nil}
 use Prim.Native.Nat.{ℕ, zero, suc, _+_, _*_, _-_, _≤_, _<_}
 use native.Mathlib.Nat.{add-sub-cancel-left, zero-add, suc-add, suc-mul, mul-le-mul-right}
 use native.Mathlib.Omega.{arith}
 use lib.ListN.{length, take, drop, length-drop, drop-of-length-le}
-use lib.Seq.{length-take-le, drop-drop, take-take, take-nil, take-all}
+use lib.Seq.{length-take-le, drop-drop, take-take, take-nil, take-all, sets, sets-eq}
 use Rattle.base.proofs.Cases.{by-lt}
 
 module _ {A : Type 0} where
@@ -23,6 +23,17 @@ module _ {A : Type 0} where
 
   pub rest-past : (a : ℕ) (l : List A) → drop (length l - a) (drop a l) ≡ []
   rest-past a l = drop-of-length-le (drop a l) {i = length l - a} (omega (arith, length-drop a l))
+
+  -- nothing is left of a list after its length
+  pub none-left : (n : ℕ) (l : List A) → length l ≡ n → drop n l ≡ []
+  none-left n l e = drop-of-length-le l {i = n} (omega arith)
+
+  -- stores one after the other that fill a list
+  pub all-set : (l xs : List A) → length l ≡ length xs → sets l 0 xs ≡ xs
+  all-set l xs e =
+      let fits : 0 + length xs ≤ length l = omega arith in
+      let past : length l ≤ 0 + length xs = omega arith in
+      sets-eq xs l 0 fits ∙ ap (λ (rest : List A). xs ++ rest) (drop-of-length-le l past) ∙ append-nil xs
 
   drop-take : (a n : ℕ) (l : List A) → drop a (take (a + n) l) ≡ take n (drop a l)
   drop-take zero n l = rw zero-add

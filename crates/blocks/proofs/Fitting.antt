@@ -50,7 +50,7 @@ pub video-fit : (size : ℕ) (y : System) (bytes n : ℕ) → n ≡ macroblocksO
 unfolding videoFits
 video-fit size y bytes n en = rw en refl
 
-pub audio-asked : (xs : List ℕ) (y : System) (samples : List ℤ) (a : ℕ) (r : Bool) → r ≡ audioFits (length xs) y (length samples) a → r ≡ true → AudioAsked xs y samples a
+pub audio-asked : (xs : List ℕ) (y : System) (samples : List ℤ) (a : ℕ) (r : Bool) → r ≡ audioFits (length xs) y (length samples) a → r ≡ true → AudioAsked xs 80 y samples a
 unfolding audioFits
 audio-asked xs y samples a r er e =
     let w = both-held _ _ (sym er ∙ e) in

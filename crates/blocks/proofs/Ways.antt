@@ -8,7 +8,7 @@ use native.Mathlib.Numerals.{add-one}
 use native.Mathlib.Omega.{arith}
 use lib.IntN.{ℤ, pos}
 use lib.Signed.{mag}
-use lib.ListN.{length, take, drop, getD, set, replicate, drop-of-length-le}
+use lib.ListN.{length, take, drop, getD, set, replicate}
 use lib.Seq.{drop-drop, take-all, paste-suc}
 use mir.Syntax.{w32, w64}
 use mir.Val.{toZ, ofZ, Fits}
@@ -19,7 +19,7 @@ use Rattle.base.specs.Run.{run}
 use Rattle.base.proofs.Picks.{pick-true, pick-false, pick-either}
 use Rattle.base.proofs.Runs.{run-same, tab-part}
 use Rattle.base.proofs.Filling.{Filled, filled-next, filled-end}
-use Rattle.base.proofs.Parts.{range-part}
+use Rattle.base.proofs.Parts.{range-part, none-left, all-set}
 use Rattle.paper.specs.declared.System.{System}
 use Rattle.paper.specs.declared.BlockId.{BlockId}
 use Rattle.paper.specs.declared.Pack.{Pack}
@@ -43,36 +43,19 @@ use Rattle.rules_format.proofs.Samples.{word-below}
 use Rattle.rules_format.proofs.Sound.{Half, half-some, half-le, first-below}
 use Rattle.rules_picture.proofs.Picture.{carried-lies}
 use Rattle.rules_packs.proofs.Subcode.{ssyb-length}
-use Rattle.blocks.specs.Asked.{WordsAsked, SamplesAsked, AudioAsked, VideoAsked}
+use Rattle.blocks.specs.Asked.{WordsAsked, AudioAsked, VideoAsked}
 use Rattle.blocks.specs.Words.{wordPair}
 
 -- ---- the first bytes of a list, stored one after the other
 
 pub two-set : (xs : List ℕ) (a b : ℕ) → length xs ≡ 2 → set (set xs 0 a) 1 b ≡ a ∷ b ∷ []
-two-set [] a b h = absurd (omega arith)
-two-set (_ ∷ []) a b h = absurd (omega arith)
-two-set (_ ∷ _ ∷ []) a b h = refl
-two-set (_ ∷ _ ∷ _ ∷ xs) a b h = absurd (omega arith)
+two-set xs a b = all-set xs (a ∷ b ∷ [])
 
 pub three-set : (xs : List ℕ) (a b c : ℕ) → length xs ≡ 3 → set (set (set xs 0 a) 1 b) 2 c ≡ a ∷ b ∷ c ∷ []
-three-set [] a b c h = absurd (omega arith)
-three-set (_ ∷ []) a b c h = absurd (omega arith)
-three-set (_ ∷ _ ∷ []) a b c h = absurd (omega arith)
-three-set (_ ∷ _ ∷ _ ∷ []) a b c h = refl
-three-set (_ ∷ _ ∷ _ ∷ _ ∷ xs) a b c h = absurd (omega arith)
+three-set xs a b c = all-set xs (a ∷ b ∷ c ∷ [])
 
 pub five-set : (xs : List ℕ) (a b c d e : ℕ) → length xs ≡ 5 → set (set (set (set (set xs 0 a) 1 b) 2 c) 3 d) 4 e ≡ a ∷ b ∷ c ∷ d ∷ e ∷ []
-five-set [] a b c d e h = absurd (omega arith)
-five-set (_ ∷ []) a b c d e h = absurd (omega arith)
-five-set (_ ∷ _ ∷ []) a b c d e h = absurd (omega arith)
-five-set (_ ∷ _ ∷ _ ∷ []) a b c d e h = absurd (omega arith)
-five-set (_ ∷ _ ∷ _ ∷ _ ∷ []) a b c d e h = absurd (omega arith)
-five-set (_ ∷ _ ∷ _ ∷ _ ∷ _ ∷ []) a b c d e h = refl
-five-set (_ ∷ _ ∷ _ ∷ _ ∷ _ ∷ _ ∷ xs) a b c d e h = absurd (omega arith)
-
--- nothing is left of a list after its length
-none-left : (n : ℕ) (xs : List ℕ) → length xs ≡ n → drop n xs ≡ []
-none-left n xs e = drop-of-length-le xs {i = n} (omega arith)
+five-set xs a b c d e = all-set xs (a ∷ b ∷ c ∷ d ∷ e ∷ [])
 
 -- ---- parts
 
@@ -187,7 +170,7 @@ module _ (xs : List ℤ) (first step t w : ℕ) (at : t ≡ step * w + first) (s
 
 -- ---- audio: the block
 
-module _ (y : System) (samples : List ℤ) (q a s first : ℕ) (es : s ≡ halfOf y) (ef : first ≡ firstAt (halfOf y) (rankAt (halfOf y) q) (a % 9)) (part : List ℕ) (asked : SamplesAsked part y samples a) where
+module _ (y : System) (samples : List ℤ) (q a s first : ℕ) (es : s ≡ halfOf y) (ef : first ≡ firstAt (halfOf y) (rankAt (halfOf y) q) (a % 9)) (part : List ℕ) (asked : AudioAsked part 72 y samples a) where
   first-is : first ≡ firstAt (halfOf y) (rankAt (halfOf y) q) a
   first-is = ef ∙ rw (mod-eq-of-lt (asked .below)) refl
 
@@ -205,8 +188,8 @@ module _ (y : System) (samples : List ℤ) (q a s first : ℕ) (es : s ≡ halfO
   unfolding wordPair wordBytes
   words-are ws e = e ∙ run-same _ _ 36 (λ w hw. rw (first-is, es) refl)
 
-module _ (xs : List ℕ) (y : System) (samples : List ℤ) (a : ℕ) (asked : AudioAsked xs y samples a) where
-  pub samples-asked : (part : List ℕ) → length part ≡ 72 → SamplesAsked part y samples a
+module _ (xs : List ℕ) (y : System) (samples : List ℤ) (a : ℕ) (asked : AudioAsked xs 80 y samples a) where
+  pub samples-asked : (part : List ℕ) → length part ≡ 72 → AudioAsked part 72 y samples a
   samples-asked part n = record { long = n; below = asked .below; turns = asked .turns }
 
   pub audio-done : (q : ℕ) (zs ps ws : List ℕ) (id : BlockId) (source asc p : Pack) → p ≡ aauxPack source asc q a → zs ≡ idBytes id → ps ≡ packBytes p

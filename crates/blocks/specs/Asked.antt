@@ -35,14 +35,9 @@ pub record WordsAsked (part : List ℕ) (samples : List ℤ) (first step : ℕ) 
   pub start : first < step
   pub few : step ≤ 54
 
--- and so they are, where an audio channel has 35 turns of 9s
-pub record SamplesAsked (part : List ℕ) (y : System) (samples : List ℤ) (a : ℕ) : Type 0 where
-  pub long : length part ≡ 72
-  pub below : a < 9
-  pub turns : 315 * halfOf y ≤ length samples
-
-pub record AudioAsked (block : List ℕ) (y : System) (samples : List ℤ) (a : ℕ) : Type 0 where
-  pub long : length block ≡ 80
+-- a part of so many bytes of A(a), and samples for 35 turns, each of 9s
+pub record AudioAsked (part : List ℕ) (size : ℕ) (y : System) (samples : List ℤ) (a : ℕ) : Type 0 where
+  pub long : length part ≡ size
   pub below : a < 9
   pub turns : 315 * halfOf y ≤ length samples
 

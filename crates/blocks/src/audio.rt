@@ -6,7 +6,7 @@ ghost use Rattle.base.specs.Pick.{pick};
 ghost use Rattle.base.specs.Run.{run};
 ghost use Rattle.rules_format.specs.Ids.{idBytes};
 ghost use Rattle.rules_writes.specs.Written.{sampleWord, wordBytes, audioBytes};
-ghost use Rattle.blocks.specs.Asked.{WordsAsked, SamplesAsked, AudioAsked};
+ghost use Rattle.blocks.specs.Asked.{WordsAsked, AudioAsked};
 ghost use Rattle.blocks.specs.Fits.{audioFits};
 ghost use Rattle.blocks.specs.Words.{wordPair};
 use crate::parts;
@@ -47,7 +47,7 @@ fn put_words(part: &mut [u8], samples: &[i32], first: usize, step: usize)
 
 // The words of A(a) of sequence q, from the samples of its audio channel: the first by the sound rule, the others 9s apart.
 fn put_samples(part: &mut [u8], y: System, samples: &[i32], q: u32, a: BlockNumber)
-    requires { ⌜ SamplesAsked (now part) y (now samples) (a .0) ⌝ }
+    requires { ⌜ AudioAsked (now part) 72 y (now samples) (a .0) ⌝ }
     ensures { λ _. ⌜ now (part .exit) ≡ run (wordBytes y (now (samples .entry)) q (a .0)) 36 ⌝ }
 {
     let s = layout::half(y);
@@ -56,7 +56,7 @@ fn put_samples(part: &mut [u8], y: System, samples: &[i32], q: u32, a: BlockNumb
 }
 
 fn write_audio(block: &mut [u8], id: BlockId, y: System, source: Pack, asc: Pack, samples: &[i32])
-    requires { ⌜ AudioAsked (now block) y (now samples) (id .dbn .0) ⌝ }
+    requires { ⌜ AudioAsked (now block) 80 y (now samples) (id .dbn .0) ⌝ }
     ensures { λ _. ⌜ now (block .exit) ≡ idBytes id ++ audioBytes y source asc (now (samples .entry)) (id .dseq) (id .dbn .0) ⌝ }
 {
     let q = id.dseq;

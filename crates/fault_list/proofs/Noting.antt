@@ -1,15 +1,15 @@
 -- What is stored of a record, the ways out of `note` and of `survey_block`, and what the loop over places keeps. Assumes nothing.
-use mathlib.Core.Path.{_≡_, refl, sym, ap, _∙_}
-use mathlib.Core.List.{List, [], _∷_, _++_, append-assoc, append-nil}
+use mathlib.Core.Path.{_≡_, refl, sym, _∙_}
+use mathlib.Core.List.{List, [], _∷_, _++_, append-assoc}
 use Prim.Native.Nat.{ℕ, _+_, _*_, _/_, _≤_, _<_, _-_}
 use native.Mathlib.Nat.{add-sub-cancel-left}
 use native.Mathlib.Omega.{arith}
-use lib.ListN.{length, take, drop, drop-of-length-le}
-use lib.Seq.{sets, sets-eq, drop-drop}
+use lib.ListN.{length, take, drop}
+use lib.Seq.{sets, drop-drop}
 use borrow.Author.Tests.{eq-eqb, ne-eqb}
 use Rattle.base.specs.Pick.{pick}
 use Rattle.base.specs.Run.{run}
-use Rattle.base.proofs.Parts.{range-part}
+use Rattle.base.proofs.Parts.{range-part, all-set}
 use Rattle.paper.specs.declared.Entry.{Entry}
 use Rattle.paper.specs.declared.Place.{Place}
 use Rattle.paper.specs.declared.IdAnswer.{IdAnswer}
@@ -31,15 +31,8 @@ use Rattle.judged_bits.proofs.Clear.{clean-block}
 
 -- ---- put_record
 
--- stores one after the other that fill a part
-all-set : (xs part : List ℕ) → length part ≡ length xs → sets part 0 xs ≡ xs
-all-set xs part e =
-    let fits : 0 + length xs ≤ length part = omega arith in
-    let past : length part ≤ 0 + length xs = omega arith in
-    sets-eq xs part 0 fits ∙ ap (λ (l : List ℕ). xs ++ l) (drop-of-length-le part past) ∙ append-nil xs
-
 pub record-stored : (part : List ℕ) (f : Fault) → length part ≡ width → sets part 0 (numbers f) ≡ numbers f
-record-stored part f e = all-set (numbers f) part (e ∙ sym (numbers-length f))
+record-stored part f e = all-set part (numbers f) (e ∙ sym (numbers-length f))
 
 -- ---- note: the part of record t is lent, and comes back as its numbers
 

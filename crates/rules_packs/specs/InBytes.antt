@@ -16,9 +16,9 @@ use Rattle.rules_format.specs.Systems.{halfOf, sequencesOf}
 use Rattle.rules_format.specs.Sound.{audioAt}
 use Rattle.rules_packs.specs.Packs.{packBytes, packIn, fourBytes}
 use Rattle.rules_packs.specs.TimeCode.{Clock, timePack, timeOk, groupOk, timeTaken}
-use Rattle.rules_packs.specs.Vaux.{Vs, vsAt, vsPack, vscPack, vauxPack, vauxBytes, vauxBlock, vauxIn, vsOk}
-use Rattle.rules_packs.specs.Aaux.{As, asAt, asPack, ascPack, aauxPack, aauxIn, countIn, asOk}
-use Rattle.rules_packs.specs.Repeated.{subcodeOf, repeatedOf}
+use Rattle.rules_packs.specs.Vaux.{Vs, vsAt, vauxPack, vauxBytes, vauxBlock, vauxIn, vsOk}
+use Rattle.rules_packs.specs.Aaux.{As, asAt, asPack, aauxPack, aauxIn, countIn, asOk}
+use Rattle.rules_packs.specs.Repeated.{repeatedOf}
 use Rattle.rules_packs.specs.Header.{headerBytes, dsfOk, flagged}
 use Rattle.rules_packs.specs.Subcode.{isFirst, kindOf, ssyb, subcodeBytes, ssybPack}
 use Rattle.paper.specs.Paper
@@ -36,7 +36,7 @@ pub record InBytes (k : ℕ) (y : System) : Type 0 where
   pub holds-time : (q j : ℕ) → holdsTime (sequences k) q j ≡ true → kindOf (isFirst y q) j ≡ TimeCode
   pub holds-group : (q j : ℕ) → holdsGroup (sequences k) q j ≡ true → kindOf (isFirst y q) j ≡ BinaryGroup
   pub ssybs : (time group : List ℕ) → length time ≡ 4 → length group ≡ 4 → (q j : ℕ) → j < 12
-      → ssyb (isFirst y q) (subcodeOf time group) j ≡ ssybForm k time group q j
+      → ssyb (isFirst y q) (repeatedOf y time group .subcode) j ≡ ssybForm k time group q j
   pub subcode : (said : SubcodeData) (q b : ℕ)
       → subcodeBytes (isFirst y q) said b ≡ run (λ (i : ℕ). ssyb (isFirst y q) said (6 * b + i)) 6 ++ replicate 29 0xFF
   pub ssyb-read : (block : List ℕ) (j : ℕ) → packBytes (ssybPack block (j % 6)) ≡ fiveFrom block (ssybByte j)
@@ -47,7 +47,7 @@ pub record InBytes (k : ℕ) (y : System) : Type 0 where
   pub taken-wrong : (time : List ℕ) → timeTaken y (timePack time) ≡ false → WrongTime k time
   pub taken-right : (time : List ℕ) → timeTaken y (timePack time) ≡ true → WrongTime k time → ⊥
   -- ---- VAUX
-  pub vaux : (q j : ℕ) → packBytes (vauxPack (vsPack y) vscPack q j) ≡ vauxForm k q j
+  pub vaux : (time group : List ℕ) (q j : ℕ) → packBytes (vauxPack (repeatedOf y time group .vs) (repeatedOf y time group .vsc) q j) ≡ vauxForm k q j
   pub vaux-blocks : (vs vsc : Pack) (q b : ℕ) → vauxBytes vs vsc q b ≡ run (λ (i : ℕ). packBytes (vauxPack vs vsc q (15 * b + i))) 15 ++ 0xFF ∷ 0xFF ∷ []
   pub vs-at : (q : ℕ) → vsAt q ≡ Paper.vsPack q
   pub vaux-read : (block : List ℕ) (j : ℕ) → packBytes (vauxIn block j) ≡ fiveFrom block (vauxByte j)
@@ -56,15 +56,14 @@ pub record InBytes (k : ℕ) (y : System) : Type 0 where
   pub vs-wrong : (p : Pack) → vsOk y p ≡ false → WrongVs k (p .pc0) (p .pc3)
   pub vs-right : (p : Pack) → vsOk y p ≡ true → WrongVs k (p .pc0) (p .pc3) → ⊥
   -- ---- AAUX: of sequence q of DIF channel h
-  pub aaux : (count h q a : ℕ) → q < sequencesOf y → packBytes (aauxPack (asPack y count (audioAt (halfOf y) h q)) ascPack q a) ≡ aauxForm k (sizeForm count) q a
+  pub aaux : (time group : List ℕ) (count h q a : ℕ) → q < sequencesOf y
+      → packBytes (aauxPack (asPack y count (audioAt (halfOf y) h q)) (repeatedOf y time group .asc) q a) ≡ aauxForm k (sizeForm count) q a
   pub as-at : (q : ℕ) → asAt q ≡ Paper.asPack q
   pub aaux-read : (block : List ℕ) → packBytes (aauxIn block) ≡ fiveFrom block 3
   -- 24, and the count of 25
   pub as-wrong : (c : ℕ) (p : Pack) → asOk y c p ≡ false → WrongAs k c (p .pc0) (p .pc1) (p .pc2) (p .pc3) (p .pc4)
   pub as-right : (c : ℕ) (p : Pack) → asOk y c p ≡ true → WrongAs k c (p .pc0) (p .pc1) (p .pc2) (p .pc3) (p .pc4) → ⊥
   pub count : (p : Pack) → countIn p ≡ countBy (p .pc1 % 64)
-  -- what every sequence repeats
-  pub repeated : (time group : List ℕ) → repeatedOf y time group ≡ record { subcode = subcodeOf time group; vs = vsPack y; vsc = vscPack; asc = ascPack }
   -- a pack in a block, and its bytes
   pub packs : (p : Pack) → (packBytes p ≡ p .pc0 ∷ p .pc1 ∷ p .pc2 ∷ p .pc3 ∷ p .pc4 ∷ []) × (fourBytes p ≡ p .pc1 ∷ p .pc2 ∷ p .pc3 ∷ p .pc4 ∷ [])
   pub pack-in : (block : List ℕ) (at : ℕ) → packIn block at ≡ record {

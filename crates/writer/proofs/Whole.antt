@@ -6,7 +6,7 @@ use Prim.Native.Nat.{ℕ, _+_, _-_, _*_, _/_, _%_, _≤_, _<_}
 use native.Mathlib.Omega.{arith}
 use lib.Dec.{eqb, ltb}
 use lib.IntN.{ℤ}
-use lib.ListN.{length, take, drop, drop-of-length-le, length-append, length-drop, take-append-drop}
+use lib.ListN.{length, take, drop, length-append, length-drop, take-append-drop}
 use lib.Seq.{take-at, drop-at, drop-drop, take-append-add, drop-append-add, length-take-le}
 use mir.Syntax.{w32, w64}
 use mir.Val.{Fits}
@@ -18,7 +18,7 @@ use Rattle.base.proofs.Cases.{by-lt}
 use Rattle.base.proofs.Picks.{pick-true}
 use Rattle.base.proofs.Runs.{end-within, run-same, run-split, run-runs, length-run}
 use Rattle.base.proofs.Filling.{Filled, filled-none, filled-next, filled-end}
-use Rattle.base.proofs.Parts.{length-part, range-part}
+use Rattle.base.proofs.Parts.{length-part, range-part, none-left}
 use Rattle.paper.specs.declared.System.{System}
 use Rattle.paper.specs.declared.SystemNumber.{SystemNumber}
 use Rattle.paper.specs.declared.SystemNumber.the-variants.{Known, NoSystem}
@@ -56,10 +56,6 @@ use Rattle.writer.specs.Asked.{ChannelAsked, SamplesAsked, VideosAsked, 
 use Rattle.writer.specs.Blocks.{blockOf, firstBlocks, headBlocks, videoBlocks, bankBlocks}
 
 -- ---- parts that are lent one after the other
-
--- nothing is left of a list after its length
-none-left : (n : ℕ) (xs : List ℕ) → length xs ≡ n → drop n xs ≡ []
-none-left n xs e = drop-of-length-le xs {i = n} (omega arith)
 
 -- a part behind the first n
 behind-first : (n m : ℕ) (zs rs xs : List ℕ) → length zs ≡ n → putMid n m (zs ++ drop n xs) rs ≡ zs ++ (rs ++ drop (n + m) xs)
