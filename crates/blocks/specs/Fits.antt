@@ -9,9 +9,9 @@ use Rattle.rules_format.specs.Systems.{halfOf, macroblocksOf}
 abbrev pub numberFits : ℕ → ℕ → ℕ → Bool
 numberFits size k blocks = eqb size 80 && ltb k blocks
 
--- and so many samples are enough for 35 turns, each of 9s
+-- and so many samples of its audio channel are enough for 35 turns, each of 9s
 unfoldable pub audioFits : ℕ → System → ℕ → ℕ → Bool
-audioFits size y samples a = (eqb size 80 && ltb a 9) && leb (315 * halfOf y) samples
+audioFits size y n a = (eqb size 80 && ltb a 9) && leb (315 * halfOf y) n
 
 -- and so many bytes are the system's macroblocks
 unfoldable pub videoFits : ℕ → System → ℕ → Bool

@@ -33,7 +33,7 @@ use Rattle.rules_reads.specs.Audio.{firstOfHalf, asIn, asKeeps, countIs, countF
 use Rattle.rules_reads.specs.Macroblock.{pictureRows, slotBytes}
 use Rattle.rules_reads.specs.Time.{ssybIn, timeFirst, groupFirst, settled, packAgrees, subcodeAgrees, timeRows}
 use Rattle.promises.specs.Contents.{Contents}
-use Rattle.rules_writes.specs.Write.{storedWord, writtenFrame}
+use Rattle.rules_writes.specs.Write.{writtenFrame}
 use Rattle.rules_format.proofs.Systems.{half-cases, sequences-some}
 use Rattle.rules_packs.proofs.Packs.{taken-means, taken-ok, group-when}
 use Rattle.rules_packs.proofs.Subcode.{first-when}
@@ -47,7 +47,7 @@ use Rattle.rules_reads.proofs.Audio.{audio-0}
 use Rattle.rules_reads.proofs.Macroblock.{picture-0}
 use Rattle.rules_reads.proofs.Time.{settled-set, same-when, subcode-when, time-0}
 use Rattle.rules_writes.proofs.Written.{frame-length, sound-names, frame-word, frame-macroblock, frame-dsf, frame-flags, frame-subcode, frame-vs, frame-as}
-use Rattle.rules_writes.proofs.Written.{frame-names}
+use Rattle.rules_writes.proofs.Written.{frame-names, storedWord}
 use Rattle.rules_surveys.specs.FaultLists.{frameFaults, channelFaults, sequenceFaults, blockFaults}
 use Rattle.base.proofs.Runs.{run-none}
 use Rattle.rules_format.specs.Faults.{faultAt}

@@ -20,8 +20,7 @@ use Rattle.rules_reads.specs.Audio.{countFor, audioNumber}
 use Rattle.rules_reads.specs.Macroblock.{macroblockNumber, macroblockPart}
 use Rattle.rules_reads.specs.Time.{timeNumber}
 use Rattle.promises.specs.Contents.{Contents}
-use Rattle.rules_writes.specs.Write.{writtenFrame}
-use Rattle.rules_writes.specs.Write.{Takes}
+use Rattle.rules_writes.specs.Write.{writtenFrame, Takes}
 use Rattle.paper.specs.Paper.{back}
 use Rattle.promises.specs.Demand2.{Strict, given, ReadsBack}
 use Rattle.rules_reads.specs.Strict.{StrictlyRead}

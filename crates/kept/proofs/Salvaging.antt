@@ -21,13 +21,12 @@ use Rattle.rules_format.specs.Faults.{names}
 use Rattle.rules_format.specs.Reading.{soundBlock, soundNamed, readSample}
 use Rattle.rules_surveys.specs.Salvage.{salvageNumber, salvaged, Salvaged}
 use Rattle.promises.specs.Contents.{Contents}
-use Rattle.rules_writes.specs.Write.{storedWord, writtenFrame}
-use Rattle.rules_writes.specs.Write.{Wrote, Takes}
+use Rattle.rules_writes.specs.Write.{writtenFrame, Wrote, Takes}
 use Rattle.paper.specs.Paper
 use Rattle.paper.specs.Paper.{positions}
 use Rattle.promises.specs.Demand2.{given}
 use Rattle.rules_format.proofs.Samples.{back-is, silence}
-use Rattle.rules_writes.proofs.Written.{frame-length, sound-names, given-in, stored-given, stored-tail}
+use Rattle.rules_writes.proofs.Written.{frame-length, storedWord, sound-names, given-in, stored-given, stored-tail}
 use Rattle.kept.proofs.Back.{sample-written}
 use Rattle.rules_surveys.proofs.Salvage.{salvaged-length, position-named, salvage-0, salvage-taken}
 use Rattle.rules_writes.proofs.Write.{write-1, write-takes, write-taken}

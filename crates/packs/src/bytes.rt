@@ -29,7 +29,7 @@ pub(crate) fn ones_after(header: u8) -> Pack
     }
 }
 
-// Pack k of a row: the source pack is number `at`, its control pack follows, and no other is.
+// Pack k of a row: the source pack is number `at`, its control pack follows, and no other pack stands there.
 pub(crate) fn pair_at(at: u32, source: Pack, control: Pack, k: u32) -> Pack
     ensures { λ r. ⌜ r ≡ pairAt at source control k ⌝ }
 {

@@ -111,7 +111,7 @@ pub struct SubcodeData {
     pub group: Pack,
 }
 
-// What every sequence of a frame repeats: what its subcode says, the packs of VAUX, and the ASC.
+// What every sequence of a frame repeats: what its subcode says, VS and VSC, and the ASC.
 pub struct Repeated {
     pub subcode: SubcodeData,
     pub vs: Pack,

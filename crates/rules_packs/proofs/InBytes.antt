@@ -17,7 +17,7 @@ use Rattle.rules_packs.proofs.Written.{header-form, half-first, time-be
 use Rattle.rules_packs.proofs.Written.{vaux-form, aaux-form}
 use Rattle.rules_packs.proofs.Judged.{vs-same, vs-wrong, vs-right, as-same, as-wrong, as-right, count-by, time-wrong, time-right, taken-wrong}
 use Rattle.rules_packs.proofs.Judged.{taken-right}
-use Rattle.rules_packs.proofs.Packs.{time-means, time-when}
+use Rattle.rules_packs.proofs.Packs.{pair-source, pair-control, time-means, time-when}
 use Rattle.rules_packs.proofs.Vaux.{vs-means, vs-when}
 use Rattle.rules_packs.proofs.Aaux.{as-means, as-when}
 
@@ -41,6 +41,7 @@ in-bytes k y known = record {
   taken-wrong = taken-wrong k y known;
   taken-right = taken-right k y known;
   vaux = λ time group q j. sym (vaux-form k y known q j);
+  vaux-pair = λ vs vsc q. rw (sym (vs-same q)) (pair-source _ vs _, pair-control _ _ vsc);
   vaux-blocks = λ vs vsc q b. refl;
   vs-at = vs-same;
   vaux-read = λ block j. refl;
@@ -48,6 +49,7 @@ in-bytes k y known = record {
   vs-wrong = vs-wrong k y known;
   vs-right = vs-right k y known;
   aaux = λ time group count h q a hq. sym (aaux-form k y known count h q hq a);
+  aaux-pair = λ source asc q. rw (sym (as-same q)) (pair-source _ source _, pair-control _ _ asc);
   as-at = as-same;
   aaux-read = λ block. refl;
   as-wrong = as-wrong k y known;

@@ -37,7 +37,7 @@ asPack y count c = record { pc0 = 0x50; pc1 = 0x40 + sizeOf count; pc2 = 0x10 + 
 abbrev pub ascPack : Pack
 ascPack = onesAfter 0x51
 
--- pack a of sequence q, in A(a), by its audio channel's AS
+-- pack a of sequence q, in A(a), of the AS of its audio channel and the ASC
 abbrev pub aauxPack : Pack → Pack → ℕ → ℕ → Pack
 aauxPack source asc q a = pairAt (asAt q) source asc a
 

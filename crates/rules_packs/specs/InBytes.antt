@@ -48,6 +48,8 @@ pub record InBytes (k : ℕ) (y : System) : Type 0 where
   pub taken-right : (time : List ℕ) → timeTaken y (timePack time) ≡ true → WrongTime k time → ⊥
   -- ---- VAUX
   pub vaux : (time group : List ℕ) (q j : ℕ) → packBytes (vauxPack (repeatedOf y time group .vs) (repeatedOf y time group .vsc) q j) ≡ vauxForm k q j
+  -- "VSC follows it", and below "ASC .. follows", whatever the packs are
+  pub vaux-pair : (vs vsc : Pack) (q : ℕ) → (vauxPack vs vsc q (Paper.vsPack q) ≡ vs) × (vauxPack vs vsc q (Paper.vsPack q + 1) ≡ vsc)
   pub vaux-blocks : (vs vsc : Pack) (q b : ℕ) → vauxBytes vs vsc q b ≡ run (λ (i : ℕ). packBytes (vauxPack vs vsc q (15 * b + i))) 15 ++ 0xFF ∷ 0xFF ∷ []
   pub vs-at : (q : ℕ) → vsAt q ≡ Paper.vsPack q
   pub vaux-read : (block : List ℕ) (j : ℕ) → packBytes (vauxIn block j) ≡ fiveFrom block (vauxByte j)
@@ -58,6 +60,7 @@ pub record InBytes (k : ℕ) (y : System) : Type 0 where
   -- ---- AAUX: of sequence q of DIF channel h
   pub aaux : (time group : List ℕ) (count h q a : ℕ) → q < sequencesOf y
       → packBytes (aauxPack (asPack y count (audioAt (halfOf y) h q)) (repeatedOf y time group .asc) q a) ≡ aauxForm k (sizeForm count) q a
+  pub aaux-pair : (source asc : Pack) (q : ℕ) → (aauxPack source asc q (Paper.asPack q) ≡ source) × (aauxPack source asc q (Paper.asPack q + 1) ≡ asc)
   pub as-at : (q : ℕ) → asAt q ≡ Paper.asPack q
   pub aaux-read : (block : List ℕ) → packBytes (aauxIn block) ≡ fiveFrom block 3
   -- 24, and the count of 25

@@ -35,6 +35,6 @@ onesAfter header = record { pc0 = header; pc1 = 0xFF; pc2 = 0xFF; pc3 = 0xFF; pc
 abbrev pub noPack : Pack
 noPack = onesAfter 0xFF
 
--- pack k of a row where a source pack is number `at`, its control pack "follows", and no other is
+-- pack k of a row: the source pack is number `at`, its control pack "follows", and no other pack stands there
 unfoldable pub pairAt : ℕ → Pack → Pack → ℕ → Pack
 pairAt at source control k = pick (eqb k at) source (pick (eqb k (at + 1)) control noPack)

@@ -25,7 +25,7 @@ vsPack y = record { pc0 = 0x60; pc1 = 0xFF; pc2 = 0xFF; pc3 = 0xC0 + rateOf y * 
 abbrev pub vscPack : Pack
 vscPack = onesAfter 0x61
 
--- pack k of the 45: "VSC follows it"
+-- pack k of the 45 of sequence q: "VSC follows it"
 abbrev pub vauxPack : Pack → Pack → ℕ → ℕ → Pack
 vauxPack vs vsc q k = pairAt (vsAt q) vs vsc k
 

@@ -1,6 +1,6 @@
 -- What an edit of this crate's definitions is refused by: what the promises ask of the ID read, the surveys, the block view and salvage. Assumes nothing.
 use mathlib.Core.Path.{_≡_}
-use mathlib.Core.List.{List}
+use mathlib.Core.List.{List, _++_}
 use Prim.Native.Nat.{ℕ, _+_, _*_}
 use lib.IntN.{ℤ}
 use Rattle.paper.specs.declared.Place.{Place}
@@ -8,11 +8,15 @@ use Rattle.paper.specs.declared.IdAnswer.{IdAnswer}
 use Rattle.paper.specs.declared.IdValues.{IdValues}
 use Rattle.paper.specs.declared.Part.{Part}
 use Rattle.paper.specs.declared.Survey.{Survey}
+use Rattle.paper.specs.declared.Fault.{Fault}
 use Rattle.rules_surveys.specs.FaultLists.{frameFaults, unnamed, failing}
 use Rattle.rules_surveys.proofs.FaultLists.{faults-stream, faults-total}
 use Rattle.rules_format.specs.Stream.{named, blocksIn}
 use Rattle.paper.specs.declared.System.{System}
 use lib.ListN.{length}
+use Rattle.rules_surveys.specs.Records.{after}
+use Rattle.rules_surveys.specs.Noting.{Noted}
+use Rattle.rules_surveys.proofs.Records.{noted-after, noted-append}
 use Rattle.rules_surveys.specs.ReadId.{IdRead, IdSaid}
 use Rattle.rules_surveys.specs.Survey.{FrameSurveyed, SequenceSurveyed}
 use Rattle.rules_surveys.specs.View.{ViewNumbered, Viewed, ViewLies}
@@ -83,3 +87,11 @@ in-stream = faults-stream
 
 pub in-total : (y : System) (frame : List ℕ) → length (frameFaults y frame) ≡ failing (named y frame) (blocksIn y)
 in-total = faults-total
+
+-- ---- the list as a loop leaves it: from the start what the paper says at once, and further on as if it had not stopped
+
+pub noted-listed : {list list′ : List ℕ} {fs : List Fault} {r : ℕ} → Noted list 0 fs list′ r → (r ≡ length fs) × (list′ ≡ after list fs)
+noted-listed = noted-after
+
+pub noted-on : {list list′ list″ : List ℕ} {t r s : ℕ} {fs gs : List Fault} → Noted list t fs list′ r → Noted list′ r gs list″ s → Noted list t (fs ++ gs) list″ s
+noted-on = noted-append

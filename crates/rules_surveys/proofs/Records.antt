@@ -232,12 +232,15 @@ module _ (list : List ℕ) (t : ℕ) (f : Fault) where
   unfolding more
   noted-full h = record { total = refl; left = sym (put-full list t f h) }
 
-noted-append : {list list′ list″ : List ℕ} {t r s : ℕ} {fs gs : List Fault} → Noted list t fs list′ r → Noted list′ r gs list″ s → Noted list t (fs ++ gs) list″ s
+pub noted-append : {list list′ list″ : List ℕ} {t r s : ℕ} {fs gs : List Fault} → Noted list t fs list′ r → Noted list′ r gs list″ s → Noted list t (fs ++ gs) list″ s
 noted-append {list} {list′} {list″} {t} {r} {s} {fs} {gs} a b =
     record {
       total = omega (arith, length-append fs gs, a .total, b .total);
       left = b .left ∙ rw (a .left, a .total) (sym (more-append list t fs gs));
     }
+
+pub noted-after : {list list′ : List ℕ} {fs : List Fault} {r : ℕ} → Noted list 0 fs list′ r → (r ≡ length fs) × (list′ ≡ after list fs)
+noted-after {list} {list′} {fs} {r} n = (omega (arith, n .total), n .left ∙ more-after list fs)
 
 -- a loop over the places, the sequences or the DIF channels: its start and one turn
 pub noted-start : (f : ℕ → List Fault) (list : List ℕ) (t : ℕ) → Noted list t (run f 0) list t

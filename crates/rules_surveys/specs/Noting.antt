@@ -8,7 +8,7 @@ use Rattle.base.specs.Pick.{pick}
 use Rattle.paper.specs.declared.Fault.{Fault}
 use Rattle.rules_surveys.specs.Records.{numbers, width, room}
 
--- one record more, after t of them
+-- one record more, after t of them, where there is room for it
 unfoldable pub put : List ℕ → ℕ → Fault → List ℕ
 put list t f = pick (ltb t (room list)) (take (width * t) list ++ numbers f ++ drop (width * (t + 1)) list) list
 

@@ -32,7 +32,7 @@ use Rattle.rules_format.specs.Sound.{audioAt}
 use Rattle.rules_picture.specs.Picture.{slot}
 use Rattle.promises.specs.Contents.{Contents}
 use Rattle.rules_writes.specs.Written.{audioBytes, payload, entryBlock, writtenBlock}
-use Rattle.rules_writes.specs.Write.{material, writtenFrame, storedWord, Takes, Wrote}
+use Rattle.rules_writes.specs.Write.{material, writtenFrame, Takes, Wrote}
 use Rattle.paper.specs.Bytes.{ssybForm, aauxForm, sizeForm, OwnCount, headerForm, vauxForm}
 use Rattle.promises.specs.Form.{timeBytes, groupBytes, cut, idForm, HasForm}
 use Rattle.rules_packs.proofs.Written.{header-form, vaux-form, ssyb-form, aaux-form, four-again}
@@ -45,7 +45,7 @@ use Rattle.rules_packs.proofs.Vaux.{vaux-rest}
 use Rattle.rules_packs.proofs.Aaux.{size-below, as-count}
 use Rattle.rules_format.proofs.Samples.{word-is, bytes-word}
 use Rattle.rules_picture.proofs.Picture.{carried-lies}
-use Rattle.rules_writes.proofs.Written.{payload-length, frame-length, frame-block, frame-payload, frame-high, frame-low, given-in, stored-word}
+use Rattle.rules_writes.proofs.Written.{payload-length, frame-length, frame-block, frame-payload, storedWord, frame-high, frame-low, given-in, stored-word}
 use Rattle.rules_writes.proofs.Written.{stored-tail, frame-macroblock, frame-empty}
 use Rattle.rules_format.proofs.Paper.{Columns, columns, by-system, figure-section, figure-number, id-is}
 use Rattle.rules_format.proofs.Numbers.{sound-high, sound-low}

@@ -39,7 +39,7 @@ use Rattle.rules_format.specs.Faults.{faultAt}
 use Rattle.promises.specs.Contents.{Contents}
 use Rattle.rules_writes.specs.Written.{samplesOf, sampleWord, wordBytes, audioBytes, carriedBytes, videoBytes, Material, payload, entryBlock, writtenBlock}
 use Rattle.rules_writes.specs.Written.{writtenSequence, writtenChannel}
-use Rattle.rules_writes.specs.Write.{material, writtenFrame, storedWord}
+use Rattle.rules_writes.specs.Write.{material, writtenFrame}
 use Rattle.rules_format.proofs.Systems.{half-cases, half-twice, positions-half, sequences-le}
 use Rattle.rules_format.proofs.Places.{place-in-below, entry-place-in}
 use Rattle.rules_packs.proofs.Packs.{pair-source, header-length, dsf-written, flags-written}
@@ -67,15 +67,15 @@ carried-length macroblocks Nothing = refl
 
 pub video-length : (y : System) (macroblocks : List ℕ) (h q v : ℕ) → length (videoBytes y macroblocks h q v) ≡ 77
 unfolding videoBytes
-video-length y macroblocks h q v = carried-length macroblocks (carriedIn y (slot h q v))
+video-length y macroblocks h q v = carried-length macroblocks _
 
 pub payload-length : (y : System) (m : Material) (h q : ℕ) (s : Section) (k : ℕ) → length (payload y m h q s k) ≡ 77
 unfolding payload
 payload-length y m h q Header k = header-length y
-payload-length y m h q Subcode k = subcode-length (isFirst y q) (m .repeated .subcode) k
-payload-length y m h q Vaux k = vaux-length (m .repeated .vs) (m .repeated .vsc) q k
-payload-length y m h q Audio k = audio-length y _ (m .repeated .asc) _ q k
-payload-length y m h q Video k = video-length y (m .macroblocks) h q k
+payload-length y m h q Subcode k = subcode-length _ _ _
+payload-length y m h q Vaux k = vaux-length _ _ _ _
+payload-length y m h q Audio k = audio-length y _ _ _ _ _
+payload-length y m h q Video k = video-length y _ _ _ _
 
 pub block-wide : (y : System) (m : Material) (h q : ℕ) → Wide 80 (writtenBlock y m h q)
 unfolding writtenBlock entryBlock idBytes
@@ -155,6 +155,10 @@ audio-byte y source asc samples q a id w i hw hi =
     ∙ run-element 0 2 (wordBytes y samples q a) (word-wide y samples q a) w 36 i hw hi
 
 -- ---- storedWord: the word at the place of sample t is that sample's
+
+-- the word of position t of audio channel c
+abbrev pub storedWord : Contents → ℕ → ℕ → ℕ
+storedWord l c t = sampleWord (samplesOf (l .count) (l .sound) c) t
 
 module _ (y : System) (l : Contents) (c t : ℕ) (c1 : 0 < c) (c8 : c < 9) (ht : t < positionsOf y) where
   s : ℕ

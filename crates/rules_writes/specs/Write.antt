@@ -15,7 +15,7 @@ use Rattle.rules_packs.specs.TimeCode.{timePack, timeTaken}
 use Rattle.rules_packs.specs.Repeated.{repeatedOf}
 use Rattle.rules_format.specs.Samples.{allInRange}
 use Rattle.promises.specs.Contents.{Contents}
-use Rattle.rules_writes.specs.Written.{samplesOf, sampleWord, Material, materialOf, writtenChannel}
+use Rattle.rules_writes.specs.Written.{Material, materialOf, writtenChannel}
 
 abbrev pub contentsOf : ℕ → List ℤ → List ℕ → List ℕ → List ℕ → Contents
 contentsOf count sound macroblocks time group = record { count = count; sound = sound; macroblocks = macroblocks; timeCode = time; binaryGroup = group }
@@ -57,10 +57,6 @@ material y l = materialOf (repeatedOf y (l .timeCode) (l .binaryGroup)) (l .coun
 
 unfoldable pub writtenFrame : System → Contents → List ℕ
 writtenFrame y l = run (writtenChannel y (material y l)) 4
-
--- the word of position t of audio channel c
-abbrev pub storedWord : Contents → ℕ → ℕ → ℕ
-storedWord l c t = sampleWord (samplesOf (l .count) (l .sound) c) t
 
 -- "A refusal .. writes nothing."
 unfoldable pub writeLeft : ℕ → Contents → List ℕ → List ℕ

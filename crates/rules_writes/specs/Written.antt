@@ -40,6 +40,7 @@ sampleWord samples t = pick (ltb t (length samples)) (wordFor (getD samples t (p
 unfoldable pub wordBytes : System → List ℤ → ℕ → ℕ → ℕ → List ℕ
 wordBytes y samples q a w = bytesOf (sampleWord samples (sampleAt (halfOf y) (rankAt (halfOf y) q) a w))
 
+-- bytes 3 to 79 of A(a) in sequence q: its pack, where `source` is the AS of its audio channel, and 36 words
 unfoldable pub audioBytes : System → Pack → Pack → List ℤ → ℕ → ℕ → List ℕ
 audioBytes y source asc samples q a = packBytes (aauxPack source asc q a) ++ run (wordBytes y samples q a) 36
 
@@ -49,6 +50,7 @@ unfoldable pub carriedBytes : List ℕ → Carried → List ℕ
 carriedBytes macroblocks (Macroblock b) = tab (λ (i : ℕ). getD macroblocks (77 * b + i) 0) 77
 carriedBytes macroblocks Nothing = replicate 77 0xFF
 
+-- bytes 3 to 79 of V(v) in sequence q of DIF channel h
 unfoldable pub videoBytes : System → List ℕ → ℕ → ℕ → ℕ → List ℕ
 videoBytes y macroblocks h q v = carriedBytes macroblocks (carriedIn y (slot h q v))
 
@@ -65,6 +67,7 @@ materialOf repeated count sound macroblocks = record { repeated = repeated; coun
 
 -- ---- a DIF channel: a run of sequences, each of 150 blocks, each an ID and 77 bytes
 
+-- bytes 3 to 79 of block k of a section
 unfoldable pub payload : System → Material → ℕ → ℕ → Section → ℕ → List ℕ
 payload y m h q Header k = headerBytes y
 payload y m h q Subcode k = subcodeBytes (isFirst y q) (m .repeated .subcode) k

@@ -1,7 +1,7 @@
 -- Each way out of the writers of a sequence, a DIF channel and the frame, and of the call. Assumes nothing.
 use mathlib.Core.Path.{_≡_, refl, sym, ap, ap₂, _∙_, subst}
 use mathlib.Core.Bool.{Bool, true}
-use mathlib.Core.List.{List, [], _++_, append-nil, append-assoc}
+use mathlib.Core.List.{List, _++_, append-nil, append-assoc}
 use Prim.Native.Nat.{ℕ, _+_, _-_, _*_, _/_, _%_, _≤_, _<_}
 use native.Mathlib.Omega.{arith}
 use lib.Dec.{eqb, ltb}
@@ -53,7 +53,7 @@ use Rattle.rules_writes.proofs.Written.{audio-length, video-length, block-entry
 use Rattle.rules_writes.proofs.Write.{write-1, taken-takes, write-stopped, write-done}
 use Rattle.blocks.specs.Fits.{numberFits, audioFits, videoFits}
 use Rattle.writer.specs.Asked.{ChannelAsked, SamplesAsked, VideosAsked, BanksAsked, BankAsked, SequenceAsked, ChannelPartAsked, FrameAsked}
-use Rattle.writer.specs.Blocks.{blockOf, firstBlocks, headBlocks, videoBlocks, bankBlocks}
+use Rattle.writer.specs.Blocks.{sectionBlock, firstBlocks, headBlocks, videoBlocks, bankBlocks}
 
 -- ---- parts that are lent one after the other
 
@@ -139,37 +139,37 @@ written b ws ps zs e ez = ez ∙ pick-true ws ps e
 number-fits : (n k m : ℕ) → n ≡ 80 → k < m → numberFits n k m ≡ true
 number-fits n k m e l = rw (eq-eqb _ _ e, lt-ltb _ _ l) refl
 
-block-wide : (h q : ℕ) (s : Section) (payload : ℕ → List ℕ) → Wide 77 payload → Wide 80 (blockOf h q s payload)
+block-wide : (h q : ℕ) (s : Section) (payload : ℕ → List ℕ) → Wide 77 payload → Wide 80 (sectionBlock h q s payload)
 unfolding idBytes
 block-wide h q s payload wide k = omega (arith, wide k)
 
-module _ (h q : ℕ) (s : Section) (payload : ℕ → List ℕ) (wide : Wide 77 payload) (d xs : List ℕ) (k n : ℕ) (ex : Filled 80 (blockOf h q s payload) k d xs) where
+module _ (h q : ℕ) (s : Section) (payload : ℕ → List ℕ) (wide : Wide 77 payload) (d xs : List ℕ) (k n : ℕ) (ex : Filled 80 (sectionBlock h q s payload) k d xs) where
   -- block k of n comes back
   first-turn : (ys : List ℕ) (i : BlockId) → length xs ≡ length d → length d ≡ n * 80 → k < n → i ≡ idOf h q s k
       → ys ≡ pick (numberFits (length (take (k * 80 + 80 - k * 80) (drop (k * 80) xs))) k n) (idBytes i ++ payload k) (take (k * 80 + 80 - k * 80) (drop (k * 80) xs))
-      → Filled 80 (blockOf h q s payload) (k + 1) d (putMid (k * 80) (k * 80 + 80 - k * 80) xs ys)
+      → Filled 80 (sectionBlock h q s payload) (k + 1) d (putMid (k * 80) (k * 80 + 80 - k * 80) xs ys)
   first-turn ys i same len hk ei ey =
       let long = part-long xs (k * 80) 80 (omega (arith, same, len)) in
-      filled-next 80 (blockOf h q s payload) (block-wide h q s payload wide) k d xs ys ex (written _ _ _ ys (number-fits _ k n long hk) ey ∙ rw ei refl)
+      filled-next 80 (sectionBlock h q s payload) (block-wide h q s payload wide) k d xs ys ex (written _ _ _ ys (number-fits _ k n long hk) ey ∙ rw ei refl)
 
   first-done : length d ≡ n * 80 → k ≤ n → n ≤ k → xs ≡ firstBlocks h q s payload n
   unfolding firstBlocks
-  first-done len le ge = filled-end 80 (blockOf h q s payload) k n d xs ex len le ge
+  first-done len le ge = filled-end 80 (sectionBlock h q s payload) k n d xs ex len le ge
 
-module _ (y : System) (h q : ℕ) (said : SubcodeData) (d xs : List ℕ) (k : ℕ) (ex : Filled 80 (blockOf h q Subcode (subcodeBytes (isFirst y q) said)) k d xs) (len : length d ≡ 160) where
+module _ (y : System) (h q : ℕ) (said : SubcodeData) (d xs : List ℕ) (k : ℕ) (ex : Filled 80 (sectionBlock h q Subcode (subcodeBytes (isFirst y q) said)) k d xs) (len : length d ≡ 160) where
   pub subcodes-turn : (ys : List ℕ) (i : BlockId) (s : ℕ) → length xs ≡ length d → k < 2 → i ≡ idOf h q Subcode k → s ≡ halfOf y
       → ys ≡ pick (numberFits (length (take (k * 80 + 80 - k * 80) (drop (k * 80) xs))) (i .dbn .0) 2) (idBytes i ++ subcodeBytes (ltb q s) said (i .dbn .0)) (take (k * 80 + 80 - k * 80) (drop (k * 80) xs))
-      → Filled 80 (blockOf h q Subcode (subcodeBytes (isFirst y q) said)) (k + 1) d (putMid (k * 80) (k * 80 + 80 - k * 80) xs ys)
+      → Filled 80 (sectionBlock h q Subcode (subcodeBytes (isFirst y q) said)) (k + 1) d (putMid (k * 80) (k * 80 + 80 - k * 80) xs ys)
   subcodes-turn ys i s same hk ei es ey =
       first-turn h q Subcode (subcodeBytes (isFirst y q) said) (subcode-length (isFirst y q) said) d xs k 2 ex ys i same len hk ei (ey ∙ rw (ei, es) refl)
 
   pub subcodes-done : k ≤ 2 → 2 ≤ k → xs ≡ firstBlocks h q Subcode (subcodeBytes (isFirst y q) said) 2
   subcodes-done = first-done h q Subcode (subcodeBytes (isFirst y q) said) (subcode-length (isFirst y q) said) d xs k 2 ex len
 
-module _ (h q : ℕ) (vs vsc : Pack) (d xs : List ℕ) (k : ℕ) (ex : Filled 80 (blockOf h q Vaux (vauxBytes vs vsc q)) k d xs) (len : length d ≡ 240) where
+module _ (h q : ℕ) (vs vsc : Pack) (d xs : List ℕ) (k : ℕ) (ex : Filled 80 (sectionBlock h q Vaux (vauxBytes vs vsc q)) k d xs) (len : length d ≡ 240) where
   pub vauxes-turn : (ys : List ℕ) (i : BlockId) → length xs ≡ length d → k < 3 → i ≡ idOf h q Vaux k
       → ys ≡ pick (numberFits (length (take (k * 80 + 80 - k * 80) (drop (k * 80) xs))) (i .dbn .0) 3) (idBytes i ++ vauxBytes vs vsc (i .dseq) (i .dbn .0)) (take (k * 80 + 80 - k * 80) (drop (k * 80) xs))
-      → Filled 80 (blockOf h q Vaux (vauxBytes vs vsc q)) (k + 1) d (putMid (k * 80) (k * 80 + 80 - k * 80) xs ys)
+      → Filled 80 (sectionBlock h q Vaux (vauxBytes vs vsc q)) (k + 1) d (putMid (k * 80) (k * 80 + 80 - k * 80) xs ys)
   vauxes-turn ys i same hk ei ey = first-turn h q Vaux (vauxBytes vs vsc q) (vaux-length vs vsc q) d xs k 3 ex ys i same len hk ei (ey ∙ rw ei refl)
 
   pub vauxes-done : k ≤ 3 → 3 ≤ k → xs ≡ firstBlocks h q Vaux (vauxBytes vs vsc q) 3
@@ -189,7 +189,7 @@ head-done y h q r a b e xs zs ss vs i ex ea eb ee ei ez ess ev =
     let here : zs ≡ idBytes (idOf h q Header 0) ++ headerBytes y = written _ _ _ zs (eq-eqb _ _ fits) ez ∙ rw ei refl in
     let long : length zs ≡ 80 = ap length here ∙ omega (arith, header-length y) in
     let subcodes : ℕ → List ℕ = subcodeBytes (isFirst y q) (r .subcode) in
-    let two : length ss ≡ 160 = ap length ess ∙ length-run 80 (blockOf h q Subcode subcodes) (block-wide h q Subcode subcodes (subcode-length (isFirst y q) (r .subcode))) 2 in
+    let two : length ss ≡ 160 = ap length ess ∙ length-run 80 (sectionBlock h q Subcode subcodes) (block-wide h q Subcode subcodes (subcode-length (isFirst y q) (r .subcode))) 2 in
     let parts : putMid 240 240 (putMid 80 160 (zs ++ postOf 0 80 xs) ss) vs ≡ zs ++ (ss ++ vs) = three-parts 80 160 240 zs ss vs xs long two ex in
     let blocks : zs ++ (ss ++ vs) ≡ headBlocks y r h q = rw (here, ess, ev) refl in
     rw (ea, eb, ee) (parts ∙ blocks)
@@ -198,7 +198,7 @@ head-done y h q r a b e xs zs ss vs i ex ea eb ee ei ez ess ev =
 
 module _ (y : System) (macroblocks : List ℕ) (h q v : ℕ) where
   abbrev pub video-in : ℕ → List ℕ
-  video-in j = blockOf h q Video (videoBytes y macroblocks h q) (v + j)
+  video-in j = sectionBlock h q Video (videoBytes y macroblocks h q) (v + j)
 
   module _ (d xs : List ℕ) (asked : VideosAsked d y macroblocks v) (j : ℕ) (ex : Filled 80 video-in j d xs) where
     video-fits : j < 15 → length xs ≡ length d → videoFits (length (take (j * 80 + 80 - j * 80) (drop (j * 80) xs))) y (length macroblocks) ≡ true
@@ -219,7 +219,7 @@ module _ (y : System) (macroblocks : List ℕ) (h q v : ℕ) where
 
 module _ (y : System) (h q a : ℕ) (source asc : Pack) (samples : List ℤ) (macroblocks xs : List ℕ) (asked : BankAsked xs y samples macroblocks a) where
   pub videos-asked : (ws : List ℕ) (v : ℕ) → length ws ≡ 1200 → v ≡ entryAt (place (placeFor Audio (record { 0 = a }) .0 + 1)) .number .0 → VideosAsked ws y macroblocks v
-  videos-asked ws v n ev = record { long = n; pictures = asked .whole .pictures; room = omega (arith, asked .below, behind-first-video a v (asked .below) ev) }
+  videos-asked ws v n ev = record { long = n; pictures = asked .whole .pictures; below = omega (arith, asked .below, behind-first-video a v (asked .below) ev) }
 
   audio-fits : (ps : List ℕ) → length ps ≡ 80 → audioFits (length ps) y (length samples) a ≡ true
   unfolding audioFits
@@ -230,7 +230,7 @@ module _ (y : System) (h q a : ℕ) (source asc : Pack) (samples : List ℤ) (ma
       → vs ≡ videoBlocks y macroblocks h q v → putMid 80 1200 (zs ++ postOf 0 80 xs) vs ≡ bankBlocks y source asc samples macroblocks h q a
   unfolding bankBlocks
   bank-done ps zs vs i v n ei e ez ev =
-      let here : zs ≡ blockOf h q Audio (audioBytes y source asc samples q) a = written _ _ ps zs (audio-fits ps n) (ez ∙ rw ei refl) in
+      let here : zs ≡ sectionBlock h q Audio (audioBytes y source asc samples q) a = written _ _ ps zs (audio-fits ps n) (ez ∙ rw ei refl) in
       let long : length zs ≡ 80 = ap length here ∙ block-wide h q Audio (audioBytes y source asc samples q) (audio-length y source asc samples q) a in
       two-parts 80 1200 zs vs xs long (asked .whole .long) ∙ rw (here, ev, behind-first-video a v (asked .below) e) refl
 
@@ -246,7 +246,7 @@ module _ (y : System) (h q : ℕ) (source asc : Pack) (samples : List ℤ) (macr
       let first = block-wide h q Audio (audioBytes y source asc samples q) (audio-length y source asc samples q) a in
       let videos : ℕ → List ℕ = video-in y macroblocks h q (15 * a) in
       let rest = length-run 80 videos (λ j. block-wide h q Video (videoBytes y macroblocks h q) (video-length y macroblocks h q) (15 * a + j)) 15 in
-      length-append (blockOf h q Audio (audioBytes y source asc samples q) a) (run videos 15) ∙ omega (arith, first, rest)
+      length-append (sectionBlock h q Audio (audioBytes y source asc samples q) a) (run videos 15) ∙ omega (arith, first, rest)
 
   module _ (d xs : List ℕ) (asked : BanksAsked d 12000 y samples macroblocks) (a : ℕ) (p : Place) (ep : p ≡ placeFor Audio (record { 0 = a })) (ha : a < 9) (same : length xs ≡ length d) where
     pub bank-ends : p .0 * 80 + 1280 ≤ length xs
@@ -271,7 +271,7 @@ module _ (y : System) (m : Material) (h q : ℕ) where
   at-place = writtenBlock y m h q
 
   -- the block at the place of block k of section s
-  stands : (s : Section) (k p : ℕ) → k < blocksOf s → p ≡ placeIn s k → at-place p ≡ blockOf h q s (payload y m h q s) k
+  stands : (s : Section) (k p : ℕ) → k < blocksOf s → p ≡ placeIn s k → at-place p ≡ sectionBlock h q s (payload y m h q s) k
   stands s k p hk e = ap at-place e ∙ block-entry y m h q s k hk
 
   head-places : run at-place 6 ≡ headBlocks y (m .repeated) h q
@@ -287,7 +287,7 @@ module _ (y : System) (m : Material) (h q : ℕ) where
 
     -- A(a), if its audio channel is i
     abbrev audio-block : ℕ → ℕ → List ℕ
-    audio-block a i = blockOf h q Audio (audioBytes y (asPack y (m .count) i) (m .repeated .asc) (samplesOf (m .count) (m .sound) i) q) a
+    audio-block a i = sectionBlock h q Audio (audioBytes y (asPack y (m .count) i) (m .repeated .asc) (samplesOf (m .count) (m .sound) i) q) a
 
     bank-places : (a : ℕ) → a < 9 → run (λ (j : ℕ). at-place (6 + (16 * a + j))) 16 ≡ bank a
     unfolding bankBlocks videoBlocks payload run

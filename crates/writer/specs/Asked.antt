@@ -9,11 +9,13 @@ use lib.ListN.{length}
 use Rattle.paper.specs.declared.System.{System}
 use Rattle.rules_format.specs.Systems.{sequencesOf, halfOf, isCount, macroblocksOf}
 
+-- sequence q of DIF channel h, with s sequences to a half
 pub record ChannelAsked (s h q : ℕ) : Type 0 where
   pub half : (s ≡ 5) ⊎ (s ≡ 6)
   pub channel : h < 4
   pub sequence : q < 2 * s
 
+-- sound of eight audio channels, one of which is c; a count is below 2,000
 pub record SamplesAsked (sound : List ℤ) (c count : ℕ) : Type 0 where
   pub above : 0 < c
   pub below : c < 9
@@ -24,9 +26,9 @@ pub record SamplesAsked (sound : List ℤ) (c count : ℕ) : Type 0 where
 pub record VideosAsked (part : List ℕ) (y : System) (macroblocks : List ℕ) (v : ℕ) : Type 0 where
   pub long : length part ≡ 1200
   pub pictures : length macroblocks ≡ 77 * macroblocksOf y
-  pub room : v ≤ 120
+  pub below : v ≤ 120
 
--- banks of so many bytes, and samples enough for 35 turns, each of 9s
+-- a part of so many bytes that holds banks, and samples for 35 turns, each of 9s
 pub record BanksAsked (part : List ℕ) (size : ℕ) (y : System) (samples : List ℤ) (macroblocks : List ℕ) : Type 0 where
   pub long : length part ≡ size
   pub turns : 315 * halfOf y ≤ length samples

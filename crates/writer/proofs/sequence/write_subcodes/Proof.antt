@@ -7,13 +7,13 @@ use borrow.Author.Needs.{needs}
 use Rattle.base.proofs.Filling.{Filled, filled-none}
 use Rattle.paper.specs.declared.Section.the-variants.{Subcode}
 use Rattle.rules_packs.specs.Subcode.{isFirst, subcodeBytes}
-use Rattle.writer.specs.Blocks.{blockOf}
+use Rattle.writer.specs.Blocks.{sectionBlock}
 use Rattle.writer.proofs.Whole.{subcodes-turn, subcodes-done}
 use Rattle.writer.proofs.sequence.write_subcodes.Statement.{statement}
 use Rattle.writer.proofs.sequence.write_subcodes.Tie as tie
 
 abbrev Inv-loop : tie.InvT-loop
-Inv-loop part₀ y h q said k₀ part k = Filled 80 (blockOf h q Subcode (subcodeBytes (isFirst y q) said)) k part₀ part × (length part ≡ length part₀) × (k ≤ 2)
+Inv-loop part₀ y h q said k₀ part k = Filled 80 (sectionBlock h q Subcode (subcodeBytes (isFirst y q) said)) k part₀ part × (length part ≡ length part₀) × (k ≤ 2)
 
 abbrev μ-loop : tie.MeasureT-loop
 μ-loop part₀ y h q said k₀ part k = 2 - k

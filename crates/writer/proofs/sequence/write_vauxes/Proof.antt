@@ -7,13 +7,13 @@ use borrow.Author.Needs.{needs}
 use Rattle.base.proofs.Filling.{Filled, filled-none}
 use Rattle.paper.specs.declared.Section.the-variants.{Vaux}
 use Rattle.rules_packs.specs.Vaux.{vauxBytes}
-use Rattle.writer.specs.Blocks.{blockOf}
+use Rattle.writer.specs.Blocks.{sectionBlock}
 use Rattle.writer.proofs.Whole.{vauxes-turn, vauxes-done}
 use Rattle.writer.proofs.sequence.write_vauxes.Statement.{statement}
 use Rattle.writer.proofs.sequence.write_vauxes.Tie as tie
 
 abbrev Inv-loop : tie.InvT-loop
-Inv-loop part₀ h q vs vsc k₀ part k = Filled 80 (blockOf h q Vaux (vauxBytes vs vsc q)) k part₀ part × (length part ≡ length part₀) × (k ≤ 3)
+Inv-loop part₀ h q vs vsc k₀ part k = Filled 80 (sectionBlock h q Vaux (vauxBytes vs vsc q)) k part₀ part × (length part ≡ length part₀) × (k ≤ 3)
 
 abbrev μ-loop : tie.MeasureT-loop
 μ-loop part₀ h q vs vsc k₀ part k = 3 - k
