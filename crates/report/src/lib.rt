@@ -1,5 +1,4 @@
 // What is printed of a survey, line by line: its records, then its totals; or its refusal alone.
-ghost use mathlib.Core.List.{[], _∷_};
 ghost use Rattle.report.specs.Printed.{recordLine, totalsLine, refusalLine, lineAt, Printed, Texted};
 use fault_list::RECORD;
 use paper::Survey;
