@@ -157,7 +157,7 @@ module _ (k : ℕ) (y : System) (known : systemOf k ≡ Known y) (l : Contents) 
 
     subcode-ones-written : (j : ℕ) → j < 2 → cut k w h q (1 + j) 51 29 ≡ replicate 29 0xFF
     unfolding payload
-    subcode-ones-written j hj = rest-written Subcode j hj 48 29 (replicate 29 0xFF) (subcode-rest (isFirst y q) said j) (omega arith) (omega arith)
+    subcode-ones-written j hj = rest-written Subcode j hj 48 29 (replicate 29 0xFF) (subcode-rest _ _ _) (omega arith) (omega arith)
 
     -- ---- VAUX
 
@@ -172,7 +172,7 @@ module _ (k : ℕ) (y : System) (known : systemOf k ≡ Known y) (l : Contents) 
 
     vaux-ones-written : (j : ℕ) → j < 3 → cut k w h q (3 + j) 78 2 ≡ replicate 2 0xFF
     unfolding payload
-    vaux-ones-written j hj = rest-written Vaux j hj 75 2 (replicate 2 0xFF) (vaux-rest (vsPack y) vscPack q j) (omega arith) (omega arith)
+    vaux-ones-written j hj = rest-written Vaux j hj 75 2 (replicate 2 0xFF) (vaux-rest _ _ _ _) (omega arith) (omega arith)
 
     -- ---- AAUX
 

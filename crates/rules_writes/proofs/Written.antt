@@ -3,7 +3,7 @@ use mathlib.Core.Path.{_≡_, refl, ap, ap₂, _∙_, subst}
 use mathlib.Core.Bool.{true, false}
 use mathlib.Core.List.{List, _++_}
 use Prim.Native.Nat.{ℕ, _+_, _-_, _*_, _/_, _%_, _≤_, _<_}
-use native.Mathlib.Nat.{mul-comm, mul-assoc}
+use native.Mathlib.Nat.{le-trans, mul-comm, mul-assoc}
 use native.Mathlib.Omega.{arith}
 use lib.IntN.{ℤ, pos}
 use lib.ListN.{length, take, drop, getD, replicate, length-take}
@@ -233,9 +233,12 @@ module _ (l : Contents) (c t : ℕ) (c1 : 0 < c) (c8 : c < 9) (len : length (l .
   pub stored-given : numberOf (sampleOf (storedWord l c t)) ≡ backOf given
   stored-given = ap (λ (w : ℕ). numberOf (sampleOf w)) stored-word ∙ number-again given given-in
 
+most-taken : (n : ℕ) (xs : List ℤ) → length (take n xs) ≤ n
+most-taken n xs = omega (arith, length-take n xs)
+
 pub stored-tail : (l : Contents) (c t : ℕ) → l .count ≤ t → storedWord l c t ≡ 0
 unfolding sampleWord samplesOf
-stored-tail l c t ht = pick-false _ _ (le-ltb t _ (omega (arith, length-take (l .count) (drop ((c - 1) * l .count) (l .sound)))))
+stored-tail l c t ht = pick-false _ _ (le-ltb t _ (le-trans (most-taken (l .count) _) ht))
 
 -- ---- carriedBytes: a slot holds its macroblock's 77 bytes, or FFh
 
