@@ -1,9 +1,11 @@
--- A list that a loop fills part by part: the first parts are written, and the rest is as it was. Assumes nothing.
+-- A list that a loop fills part by part, or with one value: what comes first is written, and the rest is as it was. Assumes nothing.
 use mathlib.Core.Path.{_≡_, refl, sym, ap, _∙_}
-use mathlib.Core.List.{List, _++_, append-assoc, append-nil}
-use Prim.Native.Nat.{ℕ, _+_, _-_, _*_, _≤_}
-use native.Mathlib.Nat.{add-mul, one-mul, zero-mul, add-sub-cancel-left, le-antisymm}
-use lib.ListN.{length, take, drop}
+use mathlib.Core.List.{List, [], _∷_, _++_, append-assoc, append-nil}
+use Prim.Native.Nat.{ℕ, zero, suc, _+_, _-_, _*_, _≤_, _<_}
+use native.Mathlib.Nat.{add-mul, one-mul, zero-mul, add-sub-cancel-left, le-antisymm, not-suc-le-zero, le-of-suc-le-suc}
+use native.Mathlib.Numerals.{add-one}
+use native.Mathlib.Omega.{arith}
+use lib.ListN.{length, take, drop, set, replicate}
 use lib.Seq.{take-at, drop-at, drop-drop, drop-length}
 use Rattle.base.specs.Run.{run, Wide}
 use Rattle.base.proofs.Runs.{run-more, length-run}
@@ -38,3 +40,19 @@ module _ {A : Type 0} where
       let e : k ≡ m = le-antisymm le ge in
       let n′ : length d ≡ k * w = n ∙ ap (λ (i : ℕ). i * w) (sym e) in
       rw (← e) (ex ∙ rw (← n′, drop-length) (append-nil (run f k)))
+
+-- ---- one value throughout: the first i elements are v, and the rest is as it was
+
+module _ {A : Type 0} (v : A) where
+  fill-next : (i : ℕ) (d : List A) → i < length d → set (replicate i v ++ drop i d) i v ≡ replicate (suc i) v ++ drop (suc i) d
+  fill-next i [] l = absurd (not-suc-le-zero l)
+  fill-next zero (x ∷ d) l = refl
+  fill-next (suc i) (x ∷ d) l = ap (λ (t : List A). v ∷ t) (fill-next i d (le-of-suc-le-suc l))
+
+  -- a turn
+  pub fill-turn : (d xs : List A) (i : ℕ) → xs ≡ replicate i v ++ drop i d → length xs ≡ length d → i < length xs → set xs i v ≡ replicate (i + 1) v ++ drop (i + 1) d
+  fill-turn d xs i e n h = let h′ : i < length d = omega arith in rw (e, add-one) (fill-next i d h′)
+
+  -- after the last turn
+  pub fill-end : (d xs : List A) (i : ℕ) → xs ≡ replicate i v ++ drop i d → length xs ≡ length d → i ≤ length d → length xs ≤ i → xs ≡ replicate (length d) v
+  fill-end d xs i e n h l = let q : i ≡ length d = omega arith in e ∙ rw (q, drop-length) (append-nil _)

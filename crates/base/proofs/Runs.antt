@@ -6,7 +6,7 @@ use Prim.Native.Nat.{ℕ, zero, suc, _+_, _*_, _/_, _%_, _≤_, _<_}
 use native.Mathlib.Nat.{add-zero, add-suc, mul-zero, mul-suc, mul-add-div, mul-add-mod-self-left, div-eq-of-lt, mod-eq-of-lt, suc-mul, zero-mul, mul-one, mul-le-mul-right, not-suc-le-zero}
 use native.Mathlib.Numerals.{add-one}
 use native.Mathlib.Omega.{arith}
-use lib.ListN.{length, take, drop, getD, length-append, length-drop}
+use lib.ListN.{length, take, drop, getD, replicate, length-append, length-drop, length-replicate, getD-replicate}
 use lib.Seq.{take-add, take-append-le, drop-append-le, drop-at, take-all, getD-take, getD-drop, ext-getD, length-take-le}
 use Rattle.base.specs.Run.{run, Wide, tab}
 use Rattle.base.proofs.Cases.{by-eq}
@@ -121,6 +121,16 @@ module _ {A : Type 0} where
   pub tab-at : (d : A) (g : ℕ → A) (i k : ℕ) → i < k → getD (tab g k) i d ≡ g i
   unfolding tab
   tab-at d g i k h = simp (mul-one, add-zero) at (run-element d 1 (λ (j : ℕ). g j ∷ []) (one-wide g) i k 0 h (omega arith))
+
+  pub tab-same : (f g : ℕ → A) (k : ℕ) → ((i : ℕ) → i < k → f i ≡ g i) → tab f k ≡ tab g k
+  unfolding tab
+  tab-same f g k h = run-same _ _ k (λ i l. ap (λ (x : A). x ∷ []) (h i l))
+
+  pub tab-constant : (v : A) (k : ℕ) → tab (λ (i : ℕ). v) k ≡ replicate k v
+  tab-constant v k =
+      ext-getD v _ _ (length-tab (λ (i : ℕ). v) k ∙ sym (length-replicate k v)) (λ i h.
+      let b : i < k = omega (arith, length-tab (λ (i : ℕ). v) k) in
+      tab-at v (λ (i : ℕ). v) i k b ∙ sym (getD-replicate k i v v b))
 
   -- a part of a list, by its elements
   pub tab-part : (d : A) (l : List A) (a m : ℕ) → a + m ≤ length l → tab (λ (i : ℕ). getD l (a + i) d) m ≡ take m (drop a l)

@@ -15,13 +15,13 @@ use Rattle.paper.specs.declared.SubcodePack.the-variants.{TimeCode, BinaryGroup
 use Rattle.rules_format.specs.Systems.{rateOf}
 use Rattle.rules_packs.specs.Header.{flagged}
 use Rattle.rules_packs.specs.Vaux.{vsOk}
-use Rattle.rules_packs.specs.Aaux.{asOk, countIn}
+use Rattle.rules_packs.specs.Aaux.{asOk, countIn, modeIn}
 use Rattle.rules_reads.specs.Check.{headerIn, vsIn, dsfAgrees, vsAgrees}
-use Rattle.rules_reads.specs.Audio.{asIn, countFor}
+use Rattle.rules_reads.specs.Audio.{asIn, firstAs}
 use Rattle.rules_format.specs.Sound.{difOf}
 use Rattle.rules_reads.specs.Time.{ssybIn, timeFirst, groupFirst, withBit6, settled, samePack, packAgrees, subcodeAgrees}
 use Rattle.judges.specs.declared.Test.{Test}
-use Rattle.judges.specs.declared.Test.the-variants.{Dsf, Vs, Unflagged, AsKeeps, CountIs, Subcode}
+use Rattle.judges.specs.declared.Test.the-variants.{Dsf, Vs, Unflagged, AsKeeps, CountIs, ModeIs, Subcode}
 use Rattle.judges.specs.Asked.{sequenceFrom, Start, FirstInHalf}
 use Rattle.judges.specs.Tests.{testOf}
 use Rattle.judges.proofs.Places.{start-is}
@@ -61,6 +61,10 @@ pub count-arm : (y : System) (test : Test) (q : ℕ) (part : List ℕ) (count k 
     → eqb k count ≡ testOf y test q part
 count-arm y test q part count k p e ep ek = rw (ek, ep, e) refl
 
+pub mode-arm : (y : System) (test : Test) (q : ℕ) (part : List ℕ) (mode m : ℕ) (p : Pack) → test ≡ ModeIs mode → p ≡ asIn q part → m ≡ modeIn p
+    → eqb m mode ≡ testOf y test q part
+mode-arm y test q part mode m p e ep em = rw (em, ep, e) refl
+
 -- ---- packs of subcode
 
 module _ (y : System) (p : Pack) (rate : ℕ) (er : rate ≡ rateOf y) where
@@ -97,10 +101,6 @@ module _ (y : System) (frame : List ℕ) (at : ℕ) where
   unfolding groupFirst
   group-way p s e = e ∙ ap (ssybIn 4) (start-is y 0 0 frame at s)
 
-  pub count-way : (c h q k : ℕ) (p : Pack) → FirstInHalf y c q → h ≡ difOf c → Start y h q at → p ≡ asIn q (sequenceFrom frame at) → k ≡ countIn p → k ≡ countFor y frame c
-  unfolding countFor
-  count-way c h q k p eq eh s ep ek =
-      ek
-      ∙ ap countIn ep
-      ∙ ap (λ (part : List ℕ). countIn (asIn q part)) (start-is y h q frame at s)
-      ∙ rw (eh, eq .is) refl
+  pub as-way : (c h q : ℕ) (p : Pack) → FirstInHalf y c q → h ≡ difOf c → Start y h q at → p ≡ asIn q (sequenceFrom frame at) → p ≡ firstAs y frame c
+  unfolding firstAs
+  as-way c h q p eq eh s ep = ep ∙ ap (asIn q) (start-is y h q frame at s) ∙ rw (eh, eq .is) refl

@@ -2,13 +2,14 @@
 ghost use mathlib.Core.Path.{_≡_};
 ghost use Rattle.rules_format.specs.Sound.{difOf};
 ghost use Rattle.rules_reads.specs.Check.{everyFrom, everySequence};
-ghost use Rattle.rules_reads.specs.Audio.{everyInHalf, countFor};
+ghost use Rattle.rules_reads.specs.Audio.{everyInHalf, firstAs};
 ghost use Rattle.judges.specs.Asked.{FirstInHalf, SequencesAsked};
 ghost use Rattle.judges.specs.Tests.{testOf};
 use crate::Test;
 use crate::read;
 use crate::sequence;
 use layout::CHANNELS;
+use paper::Pack;
 use paper::System;
 
 // The DIF channel of an audio channel; there is no audio channel 0, and 0 stands in.
@@ -61,11 +62,11 @@ pub fn every_in_half(y: System, frame: &[u8], audio: u32, test: Test) -> bool
     every_from(y, frame, test, dif(audio), q, layout::half(y))
 }
 
-// The count that the first AS of an audio channel says.
-pub fn count_for(y: System, frame: &[u8], audio: u32) -> u32
-    ensures { λ r. ⌜ r ≡ countFor y (now (frame .entry)) audio ⌝ }
+// The first AS of an audio channel.
+pub fn first_as(y: System, frame: &[u8], audio: u32) -> Pack
+    ensures { λ r. ⌜ r ≡ firstAs y (now (frame .entry)) audio ⌝ }
 {
     let first = first_in_half(y, audio);
     let at = read::start(y, dif(audio), first);
-    packs::count_in(read::as_in(frame, at, first))
+    read::as_in(frame, at, first)
 }

@@ -49,6 +49,7 @@ pub(crate) fn passes(y: System, frame: &[u8], at: usize, q: u32, test: Test) -> 
         Test::Unflagged(k) => !is_flagged(frame, at, k),
         Test::AsKeeps(c) => packs::as_ok(y, c, read::as_in(frame, at, q)),
         Test::CountIs(count) => packs::count_in(read::as_in(frame, at, q)) == count,
+        Test::ModeIs(mode) => packs::mode_in(read::as_in(frame, at, q)) == mode,
         Test::Subcode(time, group) => subcode::subcode_agrees(y, frame, at, q, time, group),
     }
 }

@@ -5,7 +5,7 @@ use mathlib.Core.List.{List, []}
 use Prim.Native.Nat.{ℕ, _+_, _*_, _/_, _%_, _≤_, _<_}
 use native.Mathlib.Omega.{arith}
 use lib.ListN.{length, take, drop}
-use borrow.Author.Tests.{eq-eqb}
+use borrow.Author.Tests.{eq-eqb, ne-eqb}
 use Rattle.base.specs.Calls.{firstOf}
 use Rattle.base.proofs.Picks.{both-hold, pick-true}
 use Rattle.paper.specs.declared.System.{System}
@@ -22,14 +22,14 @@ use Rattle.rules_format.specs.Blocks.{sequenceAt, blockIn}
 use Rattle.rules_packs.specs.TimeCode.{timePack, groupPack, timeTaken}
 use Rattle.rules_packs.specs.Subcode.{isFirst, kindOf, subcodePack, ssybPack}
 use Rattle.rules_packs.specs.Vaux.{vsAt, vauxBlock, vauxIn, vsOk}
-use Rattle.rules_packs.specs.Aaux.{asAt, asPack, asOk, aauxIn, countIn}
+use Rattle.rules_packs.specs.Aaux.{asAt, modeOf, asPack, asOk, aauxIn, countIn, modeIn}
 use Rattle.rules_packs.specs.Header.{dsfOk, flagged}
 use Rattle.rules_format.specs.Samples.{sampleOf}
 use Rattle.rules_format.specs.Sound.{difOf}
 use Rattle.rules_picture.specs.Picture.{carriedIn}
 use Rattle.rules_reads.specs.Check.{everySequence, dsfAgrees, vsAgrees, unflagged, faultIn, checkRows, checkNumber}
 use Rattle.rules_format.specs.Reading.{readSample, salvagedSample}
-use Rattle.rules_reads.specs.Audio.{firstOfHalf, asIn, asKeeps, countIs, countFor, audioRows}
+use Rattle.rules_reads.specs.Audio.{firstOfHalf, asIn, asKeeps, firstAs, countFor, modeFor, isMarked, countIs, modeIs, asAgree, audioRows}
 use Rattle.rules_reads.specs.Macroblock.{pictureRows, slotBytes}
 use Rattle.rules_reads.specs.Time.{ssybIn, timeFirst, groupFirst, settled, packAgrees, subcodeAgrees, timeRows}
 use Rattle.promises.specs.Contents.{Contents}
@@ -38,7 +38,7 @@ use Rattle.rules_format.proofs.Systems.{half-cases, sequences-some}
 use Rattle.rules_packs.proofs.Packs.{taken-means, taken-ok, group-when}
 use Rattle.rules_packs.proofs.Subcode.{first-when}
 use Rattle.rules_packs.proofs.Vaux.{vs-written, vs-below}
-use Rattle.rules_packs.proofs.Aaux.{as-written, as-count, as-below}
+use Rattle.rules_packs.proofs.Aaux.{as-written, as-count, as-own, as-below}
 use Rattle.rules_format.proofs.Sound.{half-some}
 use Rattle.rules_picture.proofs.Picture.{carried-inside}
 use Rattle.rules_reads.proofs.Check.{section-block, from-when, every-when, fault-none, rows-0, check-0}
@@ -113,20 +113,34 @@ module _ (y : System) (l : Contents) where
         let q = firstOfHalf y c + r in
         ap aauxIn (section-block y f (difOf c) q Audio (asAt q) (omega (arith, as-below q))) ∙ frame-as y l c r q c1 c8 hr refl
 
-    pub count-written : isCount y (l .count) ≡ true → countFor y (writtenFrame y l) c ≡ l .count
-    unfolding countFor f
-    count-written own =
+    first-written : firstAs y f c ≡ asPack y (l .count) c
+    unfolding firstAs
+    first-written =
         let e : firstOfHalf y c + 0 ≡ firstOfHalf y c = omega arith in
-        subst (λ (q : ℕ). countIn (asIn q (sequenceAt y (writtenFrame y l) (difOf c) q)) ≡ l .count) e
-        (ap countIn (as-at 0 (half-some _ (half-cases y))) ∙ as-count y (l .count) c own)
+        subst (λ (q : ℕ). asIn q (sequenceAt y f (difOf c) q) ≡ asPack y (l .count) c) e (as-at 0 (half-some _ (half-cases y)))
+
+    pub count-written : isCount y (l .count) ≡ true → countFor y (writtenFrame y l) c ≡ l .count
+    unfolding f
+    count-written own = ap countIn first-written ∙ as-count y (l .count) c own
+
+    -- our writer marks no channel
+    pub recorded-written : isMarked y (writtenFrame y l) c ≡ false
+    unfolding f
+    recorded-written = ne-eqb (modeFor y (writtenFrame y l) c) 0xF (λ z. omega (arith, z, ap modeIn first-written, as-own y (l .count) c))
+
+    agree-written : asAgree y f c ≡ true
+    unfolding asAgree
+    agree-written =
+        both-hold
+        (from-when y f (countIs (countFor y f c)) (difOf c) (firstOfHalf y c) (halfOf y) (λ r hr. eq-eqb _ _ (ap countIn (as-at r hr ∙ sym first-written))))
+        (from-when y f (modeIs (modeFor y f c)) (difOf c) (firstOfHalf y c) (halfOf y) (λ r hr. eq-eqb _ _ (ap modeIn (as-at r hr ∙ sym first-written))))
 
     pub audio-written : isCount y (l .count) ≡ true → firstOf (audioRows y (writtenFrame y l) c) ≡ 0
     unfolding f
     audio-written own =
         sym (audio-0 y (writtenFrame y l) c (flags-clear 1 (omega arith) (omega arith))
         (from-when y (writtenFrame y l) (asKeeps y c) (difOf c) (firstOfHalf y c) (halfOf y) (λ r hr. ap (asOk y c) (as-at r hr) ∙ as-written y (l .count) c own))
-        (from-when y (writtenFrame y l) (countIs (countFor y (writtenFrame y l) c)) (difOf c) (firstOfHalf y c) (halfOf y) (λ r hr.
-        eq-eqb _ _ (ap countIn (as-at r hr) ∙ as-count y (l .count) c own ∙ sym (count-written own)))))
+        agree-written)
 
     module _ (t : ℕ) (ht : t < positionsOf y) where
       pub sample-written : readSample y (writtenFrame y l) c t ≡ sampleOf (storedWord l c t)

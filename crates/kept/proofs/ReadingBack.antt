@@ -15,8 +15,7 @@ use Rattle.paper.specs.declared.SystemNumber.the-variants.{Known}
 use Rattle.paper.specs.declared.AudioAnswer.{AudioAnswer}
 use Rattle.rules_format.specs.Systems.{positionsOf, macroblocksOf, systemOf}
 use Rattle.rules_format.specs.Samples.{numberOf}
-use Rattle.rules_format.specs.Reading.{readSample}
-use Rattle.rules_reads.specs.Audio.{countFor, audioNumber}
+use Rattle.rules_reads.specs.Audio.{countFor, heardSample, audioNumber}
 use Rattle.rules_reads.specs.Macroblock.{macroblockNumber, macroblockPart}
 use Rattle.rules_reads.specs.Time.{timeNumber}
 use Rattle.promises.specs.Contents.{Contents}
@@ -27,12 +26,12 @@ use Rattle.rules_reads.specs.Strict.{StrictlyRead}
 use Rattle.rules_format.proofs.Systems.{count-below}
 use Rattle.rules_format.proofs.Samples.{back-is}
 use Rattle.rules_picture.proofs.Picture.{carrier-one}
-use Rattle.rules_reads.proofs.Audio.{audio-rows, audio-taken, audio-sample}
+use Rattle.rules_reads.proofs.Audio.{heard-recorded, audio-rows, audio-taken, audio-sample}
 use Rattle.rules_reads.proofs.Macroblock.{macroblock-rows, macroblock-carried}
 use Rattle.rules_reads.proofs.Time.{time-rows, time-taken}
 use Rattle.rules_writes.proofs.Written.{frame-length, given-in, stored-given}
-use Rattle.kept.proofs.Back.{rows-written, check-written, count-written, audio-written, sample-written, picture-written, slot-written, group-written}
-use Rattle.kept.proofs.Back.{clock-written, settled-written}
+use Rattle.kept.proofs.Back.{rows-written, check-written, count-written, recorded-written, audio-written, sample-written, picture-written, slot-written}
+use Rattle.kept.proofs.Back.{group-written, clock-written, settled-written}
 use Rattle.rules_packs.proofs.Written.{four-again}
 
 -- ---- the frame of what is taken
@@ -54,9 +53,10 @@ module _ (y : System) (l : Contents) (size : ℕ) (t : Takes y l size) where
       count-is : countFor y (writtenFrame y l) c ≡ l .count
       count-is = count-written y l c c1 c8 (t .counts)
 
-      sample-is : (i : ℕ) → i < l .count → numberOf (readSample y (writtenFrame y l) c i) ≡ back (given l c i)
+      sample-is : (i : ℕ) → i < l .count → numberOf (heardSample y (writtenFrame y l) c i) ≡ back (given l c i)
       sample-is i h =
-          ap numberOf (sample-written y l c c1 c8 i (omega (arith, h, count-below y (l .count) (t .counts))))
+          ap numberOf (heard-recorded y (writtenFrame y l) c i (recorded-written y l c c1 c8))
+          ∙ ap numberOf (sample-written y l c c1 c8 i (omega (arith, h, count-below y (l .count) (t .counts))))
           ∙ stored-given l c i c1 c8 (t .sounds) (t .levels) h
           ∙ back-is (given l c i) (given-in l c i c1 c8 (t .sounds) (t .levels) h)
 
@@ -86,7 +86,7 @@ module _ (y : System) (l : Contents) (size : ℕ) (t : Takes y l size) where
         let zero = audio-zero-written c c1 c8 samples room in
         let count = count-is c c1 c8 samples room in
         let audio = audio-taken k (writtenFrame y l) c samples y known zero (read .audio) in
-        let sample : ℕ → ℤ = λ i. numberOf (readSample y (writtenFrame y l) c i) in
+        let sample : ℕ → ℤ = λ i. numberOf (heardSample y (writtenFrame y l) c i) in
         let heard : List ℤ = tab sample (l .count) in
         let many = length-tab sample (l .count) in
         let left : o .samples ≡ heard ++ drop (l .count) samples = audio .1 ∙ rw count refl in

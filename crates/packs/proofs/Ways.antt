@@ -13,7 +13,7 @@ use Rattle.rules_packs.specs.Packs.{noPack, pairAt}
 use Rattle.rules_packs.specs.Subcode.{kindOf}
 use Rattle.rules_packs.specs.TimeCode.{timePack, groupPack, digitsOk, lastFrame, clockOk, timeTaken}
 use Rattle.rules_packs.specs.Vaux.{vsPack, vscPack, vsOk}
-use Rattle.rules_packs.specs.Aaux.{sizeOf, modeOf, asPack, ascPack, countIn, asOk}
+use Rattle.rules_packs.specs.Aaux.{sizeOf, modeOf, asPack, ascPack, countIn, modeIn, isMark, modeOk, asOk}
 use Rattle.rules_packs.specs.Repeated.{repeatedOf}
 use Rattle.rules_packs.proofs.Subcode.{kind-none-first, kind-none-second}
 use Rattle.rules_packs.proofs.Packs.{pair-source, pair-control, pair-none}
@@ -32,9 +32,12 @@ pub vs-judged : (y : System) (p : Pack) (pc3 rate stype : ℕ) → Byte (p .pc3)
     → (eqb (p .pc0) 0x60 && (eqb (pc3 / 32 % 2) rate && eqb (pc3 % 32) stype)) ≡ vsOk y p
 vs-judged y p pc3 rate stype b er es = rw (b .is, er, es) refl
 
-pub as-judged : (y : System) (c : ℕ) (p : Pack) (count rate mode pc2 pc3 : ℕ) (own : Bool) → count ≡ countIn p → own ≡ isCount y count → rate ≡ rateOf y → mode ≡ modeOf c → Byte (p .pc2) pc2 → Byte (p .pc3) pc3
-    → (eqb (p .pc0) 0x50 && (ltb (p .pc1) 128 && (own && (ltb pc2 32 && (eqb (pc2 % 16) mode && (eqb (pc3 / 32 % 2) rate && (eqb (pc3 % 32) 3 && eqb (p .pc4 % 64) 0))))))) ≡ asOk y c p
-as-judged y c p count rate mode pc2 pc3 own ec eo er em b2 b3 = rw (eo, ec, er, em, b2 .is, b3 .is) refl
+pub as-judged : (y : System) (c : ℕ) (p : Pack) (count rate mode pc3 : ℕ) (own said : Bool) → count ≡ countIn p → own ≡ isCount y count → rate ≡ rateOf y → mode ≡ modeIn p → said ≡ modeOk c mode → Byte (p .pc3) pc3
+    → (eqb (p .pc0) 0x50 && (ltb (p .pc1) 128 && (own && (ltb (p .pc2) 32 && (said && (eqb (pc3 / 32 % 2) rate && (eqb (pc3 % 32) 3 && eqb (p .pc4 % 64) 0))))))) ≡ asOk y c p
+as-judged y c p count rate mode pc3 own said ec eo er em es b3 = rw (eo, ec, er, es, em, b3 .is) refl
+
+pub mode-judged : (c mode own : ℕ) (mark : Bool) → own ≡ modeOf c → mark ≡ isMark mode → (eqb mode own || mark) ≡ modeOk c mode
+mode-judged c mode own mark eo em = rw (eo, em) refl
 
 -- ---- an SSYB with no pack
 

@@ -1,6 +1,6 @@
 // The packs of the audio blocks.
 ghost use mathlib.Core.Path.{_≡_};
-ghost use Rattle.rules_packs.specs.Aaux.{asAt, sizeOf, modeOf, asPack, aauxPack, countIn, asOk};
+ghost use Rattle.rules_packs.specs.Aaux.{asAt, sizeOf, modeOf, asPack, aauxPack, countIn, modeIn, isMark, modeOk, asOk};
 use crate::bytes;
 use paper::Pack;
 use paper::System;
@@ -65,6 +65,27 @@ pub fn count_in(p: Pack) -> u32
     }
 }
 
+// The mode that an AS says.
+pub fn mode_in(p: Pack) -> u32
+    ensures { λ r. ⌜ r ≡ modeIn p ⌝ }
+{
+    base::wide(p.pc2) % 16
+}
+
+// 1111, invalid audio data: the mark of an unrecorded channel.
+pub fn is_mark(mode: u32) -> bool
+    ensures { λ r. ⌜ r ≡ isMark mode ⌝ }
+{
+    mode == 0xF
+}
+
+// The audio channel's own mode, or the mark.
+fn mode_ok(c: u32, mode: u32) -> bool
+    ensures { λ r. ⌜ r ≡ modeOk c mode ⌝ }
+{
+    (mode == mode_of(c)) | is_mark(mode)
+}
+
 // An AS of audio channel c keeps the rules (24).
 pub fn as_ok(y: System, c: u32, p: Pack) -> bool
     ensures { λ r. ⌜ r ≡ asOk y c p ⌝ }
@@ -72,13 +93,11 @@ pub fn as_ok(y: System, c: u32, p: Pack) -> bool
     let count = count_in(p);
     let own = layout::is_count(y, count);
     let rate = layout::rate(y);
-    let mode = mode_of(c);
-    let pc2 = base::wide(p.pc2);
+    let mode = mode_ok(c, mode_in(p));
     let pc3 = base::wide(p.pc3);
     (p.pc0 == 0x50)
         & ((p.pc1 < 128)
             & (own
-                & ((pc2 < 32)
-                    & ((pc2 % 16 == mode)
-                        & ((pc3 / 32 % 2 == rate) & ((pc3 % 32 == 3) & (p.pc4 % 64 == 0)))))))
+                & ((p.pc2 < 32)
+                    & (mode & ((pc3 / 32 % 2 == rate) & ((pc3 % 32 == 3) & (p.pc4 % 64 == 0)))))))
 }

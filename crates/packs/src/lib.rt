@@ -11,6 +11,8 @@ pub use aaux::as_at;
 pub use aaux::as_ok;
 pub use aaux::as_pack;
 pub use aaux::count_in;
+pub use aaux::is_mark;
+pub use aaux::mode_in;
 pub use bytes::pack_of;
 pub use frame::repeated;
 pub use subcode::kind_of;

@@ -64,13 +64,13 @@ abbrev pub OwnCount : ℕ → ℕ → Type 0
 OwnCount k count = (count ≡ fewer k) ⊎ (count ≡ more k)
 
 -- 24: "AS: 50h; LF 0 in bit 7 and AF size in bits 5-0 ..; bit 7 zero, CHN 00 in bits 6-5, mode in bits 3-0 (0 for channels 1, 3, 5, 7; 1 for 2, 4, 6, 8 ..);
--- 50/60 bit 5, STYPE 00011; SMP and QU 000 in bits 5-0.": of audio channel c
+-- 50/60 bit 5, STYPE 00011; SMP and QU 000 in bits 5-0.": of audio channel c. "24 no longer covers 1111", the mode of "invalid audio data"
 pub data WrongAs (k c pc0 pc1 pc2 pc3 pc4 : ℕ) : Type 0 where
   wrongHeader : pc0 ≢ 0x50 → WrongAs k c pc0 pc1 pc2 pc3 pc4
   wrongLf : 128 ≤ pc1 → WrongAs k c pc0 pc1 pc2 pc3 pc4
   wrongSize : (OwnCount k (countBy (pc1 % 64)) → ⊥) → WrongAs k c pc0 pc1 pc2 pc3 pc4
   wrongChn : 32 ≤ pc2 → WrongAs k c pc0 pc1 pc2 pc3 pc4
-  wrongMode : pc2 % 16 ≢ (c + 1) % 2 → WrongAs k c pc0 pc1 pc2 pc3 pc4
+  wrongMode : pc2 % 16 ≢ (c + 1) % 2 → pc2 % 16 ≢ 0xF → WrongAs k c pc0 pc1 pc2 pc3 pc4
   wrongRate : pc3 / 32 % 2 ≢ rate k → WrongAs k c pc0 pc1 pc2 pc3 pc4
   wrongStype : pc3 % 32 ≢ 3 → WrongAs k c pc0 pc1 pc2 pc3 pc4
   wrongSmpQu : pc4 % 64 ≢ 0 → WrongAs k c pc0 pc1 pc2 pc3 pc4

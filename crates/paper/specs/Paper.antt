@@ -169,9 +169,12 @@ asPlace q = 6 + 16 * asPack q
 unfoldable pub countBy : ℕ → ℕ
 countBy size = pick (eqb size 20) 1600 (pick (eqb size 22) 1602 (pick (eqb size 24) 1920 0))
 
--- what the AS of sequence q of DIF channel h says
+-- what the AS of sequence q of DIF channel h says: its count, and its mode, "in bits 3-0" of PC2
 abbrev pub countSaid : ℕ → List ℕ → ℕ → ℕ → ℕ
 countSaid n f h q = countBy (byteAt n f h q (asPlace q) 4 % 64)
+
+abbrev pub modeSaid : ℕ → List ℕ → ℕ → ℕ → ℕ
+modeSaid n f h q = byteAt n f h q (asPlace q) 5 % 16
 
 -- ---- VAUX: "45 packs, 15 to a block, five bytes each from byte 3"
 

@@ -9,7 +9,7 @@ use lib.Seq.{ext-getD, getD-drop}
 use Rattle.base.specs.Run.{run}
 use Rattle.base.proofs.Cases.{by-lt, by-eq}
 use Rattle.promises.specs.Contents.{Contents}
-use Rattle.paper.specs.Paper.{sequences, records, positions, macroblocks, streamFault, soundIndex, back}
+use Rattle.paper.specs.Paper.{sequences, records, positions, macroblocks, streamFault, soundChannel, soundFirst, soundIndex, modeSaid, back}
 use Rattle.promises.specs.Demand2.{Strict, ReadsBack, IdOut, ViewOut, MacroblockOut, ReadOut, GoesThrough}
 use lib.Dec.{ltb}
 use Rattle.base.specs.Pick.{pick}
@@ -78,10 +78,15 @@ pub reads-one : {k : ℕ} {f : List ℕ} {c : ℕ} {samples : List ℤ} {b : ℕ
     → ReadOut k f c samples b o → ReadOut k f c samples b o′ → o ≡ o′
 reads-one {k} {f} {c} {samples} {b} {o} {o′} hb z z′ m m′ =
     let s = slot-of k b hb in
+    let mode = modeSaid (sequences k) f (soundChannel c) (soundFirst (sequences k) c) in
     let count : o .audio .count ≡ o′ .audio .count = m .count (z .audio) ∙ sym (m′ .count (z′ .audio)) in
     let same : o .samples ≡ o′ .samples =
     lists-one (o′ .audio .count) (m .size ∙ sym (m′ .size))
-    (λ t h. m .sample (z .audio) t (omega (arith, h, count)) ∙ sym (m′ .sample (z′ .audio) t h))
+    (λ t h.
+    let h′ : t < o .audio .count = omega (arith, h, count) in
+    by-eq mode 0xF
+    (λ mark. m .unrecorded (z .audio) mark t h′ ∙ sym (m′ .unrecorded (z′ .audio) mark t h))
+    (λ d. m .sample (z .audio) d t h′ ∙ sym (m′ .sample (z′ .audio) d t h)))
     (subst (λ (n : ℕ). drop n (o .samples) ≡ drop n samples) count (m .rest (z .audio)) ∙ sym (m′ .rest (z′ .audio))) in
     λ i. record {
       check = (z .check ∙ sym (z′ .check)) i;

@@ -18,7 +18,7 @@ use Rattle.paper.specs.declared.Carried.the-variants.{Macroblock}
 use Rattle.rules_format.specs.Ids.{idValues}
 use Rattle.promises.specs.Contents.{Contents}
 use Rattle.paper.specs.Paper.{sequences, positions, macroblocks, start, byteAt, bytesAt, channelBy, soundChannel, soundFirst, soundStart, soundWord, sampleBy}
-use Rattle.paper.specs.Paper.{wordBy, back, countSaid, slotPlace, carried}
+use Rattle.paper.specs.Paper.{wordBy, back, countSaid, modeSaid, slotPlace, carried}
 use Rattle.promises.specs.Form.{HasForm}
 use Rattle.paper.specs.Bytes.{firstAnswered}
 
@@ -61,7 +61,11 @@ pub record Strict : Type 0 where
 pub record ReadOut (k : ℕ) (f : List ℕ) (c : ℕ) (samples : List ℤ) (b : ℕ) (o : Strict) : Type 0 where
   -- "packs, the place of each audio sample"
   pub count : o .audio .number ≡ 0 → o .audio .count ≡ countSaid (sequences k) f (soundChannel c) (soundFirst (sequences k) c)
-  pub sample : o .audio .number ≡ 0 → (t : ℕ) → t < o .audio .count → getD (o .samples) t (pos 0) ≡ sampleBy (soundWord (sequences k) f c t)
+  pub sample : o .audio .number ≡ 0 → modeSaid (sequences k) f (soundChannel c) (soundFirst (sequences k) c) ≢ 0xF → (t : ℕ) → t < o .audio .count
+      → getD (o .samples) t (pos 0) ≡ sampleBy (soundWord (sequences k) f c t)
+  -- of a channel marked "with audio mode 1111" it "hands out every sample up to [the count] as lost"
+  pub unrecorded : o .audio .number ≡ 0 → modeSaid (sequences k) f (soundChannel c) (soundFirst (sequences k) c) ≡ 0xF → (t : ℕ) → t < o .audio .count
+      → getD (o .samples) t (pos 0) ≡ pos 32768
   pub rest : o .audio .number ≡ 0 → drop (o .audio .count) (o .samples) ≡ drop (o .audio .count) samples
   pub size : length (o .samples) ≡ length samples
   -- "and each compressed macroblock": that of the slot V(5g+m) which carries it

@@ -7,8 +7,8 @@ use mathlib.Core.Logic.{_⊎_, _≢_}
 use Prim.Native.Nat.{ℕ, _+_, _*_, _/_, _≤_, _<_}
 use lib.IntN.{ℤ, pos, negsuc}
 use lib.ListN.{length, getD}
-use Rattle.paper.specs.Paper.{sequences, positions, macroblocks, rate, byteAt, streamFault, fault, soundChannel, soundFirst, asPlace, countSaid, vauxPlace}
-use Rattle.paper.specs.Paper.{vauxByte, vsPack, ssybPlace, ssybByte, holdsTime, holdsGroup}
+use Rattle.paper.specs.Paper.{sequences, positions, macroblocks, rate, byteAt, streamFault, fault, soundChannel, soundFirst, asPlace, countSaid, modeSaid}
+use Rattle.paper.specs.Paper.{vauxPlace, vauxByte, vsPack, ssybPlace, ssybByte, holdsTime, holdsGroup}
 use Rattle.promises.specs.Contents.{Contents}
 use Rattle.paper.specs.Bytes.{WrongVs, OwnCount, WrongAs, WrongClock, WrongTime, compared}
 
@@ -91,13 +91,17 @@ AsBreaks k f c h q =
     WrongAs k c (asByte (sequences k) f h q 0) (asByte (sequences k) f h q 1) (asByte (sequences k) f h q 2) (asByte (sequences k) f h q 3)
     (asByte (sequences k) f h q 4)
 
--- 25: "the channel's AS packs differ in count"
-pub record CountsDiffer (n : ℕ) (f : List ℕ) (c : ℕ) : Type 0 where
+-- two sequences of its half that say different numbers
+pub record DifferInHalf (n c : ℕ) (said : ℕ → ℕ → ℕ) : Type 0 where
   pub r : ℕ
   pub r′ : ℕ
   pub rank : r < n / 2
   pub rank′ : r′ < n / 2
-  pub differ : countSaid n f (soundChannel c) (soundFirst n c + r) ≢ countSaid n f (soundChannel c) (soundFirst n c + r′)
+  pub differ : said (soundChannel c) (soundFirst n c + r) ≢ said (soundChannel c) (soundFirst n c + r′)
+
+-- 25: "the channel's AS packs differ in count"; "25 also covers AS packs that differ in mode"
+abbrev pub AsDiffer : ℕ → List ℕ → ℕ → Type 0
+AsDiffer n f c = DifferInHalf n c (countSaid n f) ⊎ DifferInHalf n c (modeSaid n f)
 
 -- ---- 26, 27: time code and binary group
 
@@ -175,7 +179,7 @@ audioTable k f c room =
     else checked k f (
     23 if Some (sequences k) (Flagged 5 (sequences k) f)
     else 24 if SomeInHalf (sequences k) c (AsBreaks k f c)
-    else 25 if CountsDiffer (sequences k) f c
+    else 25 if AsDiffer (sequences k) f c
     else none)
 
 -- "macroblock read 23"

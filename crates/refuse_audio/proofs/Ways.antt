@@ -1,6 +1,6 @@
 -- The ways out of the audio read's numbers, a lemma a row. s is what the code's `system_of` answers, n the frame's bytes. Assumes nothing.
-use mathlib.Core.Path.{_≡_, sym, ap, _∙_}
-use mathlib.Core.Bool.{Bool, true, false, not}
+use mathlib.Core.Path.{_≡_, refl, sym, ap, _∙_}
+use mathlib.Core.Bool.{Bool, true, false, not, _&&_}
 use mathlib.Core.List.{List}
 use Prim.Native.Nat.{ℕ, _*_}
 use lib.Dec.{eqb}
@@ -8,16 +8,25 @@ use lib.ListN.{length}
 use borrow.Author.Tests.{not-true, not-false}
 use Rattle.base.specs.Calls.{firstOf}
 use Rattle.paper.specs.declared.System.{System}
+use Rattle.paper.specs.declared.Pack.{Pack}
 use Rattle.paper.specs.declared.SystemNumber.{SystemNumber}
 use Rattle.paper.specs.declared.SystemNumber.the-variants.{Known, NoSystem}
 use Rattle.rules_format.specs.Systems.{sequencesOf, positionsOf, systemOf}
 use Rattle.rules_reads.specs.Check.{everySequence, unflagged, checkRows}
-use Rattle.rules_reads.specs.Audio.{everyInHalf, asKeeps, countIs, countFor, isAudio, audioRows, audioNumber}
+use Rattle.rules_packs.specs.Aaux.{countIn, modeIn}
+use Rattle.rules_reads.specs.Audio.{everyInHalf, asKeeps, firstAs, countIs, modeIs, asAgree, isAudio, audioRows, audioNumber}
 use Rattle.rules_reads.proofs.Audio.{audio-23, audio-24, audio-25, audio-0, audio-1, audio-2, audio-3, audio-4, audio-checked, audio-rows}
 use Rattle.refuse_check.specs.Asked.{wholeNumber}
 use Rattle.refuse_check.proofs.Ways.{whole-number}
 
--- ---- sound_number: a, b and e are the three judgements
+-- ---- as_agree
+
+pub agree-way : (y : System) (frame : List ℕ) (c : ℕ) (first : Pack) (count mode : ℕ) (a b : Bool) → first ≡ firstAs y frame c → count ≡ countIn first → mode ≡ modeIn first
+    → a ≡ everyInHalf y frame c (countIs count) → b ≡ everyInHalf y frame c (modeIs mode) → (a && b) ≡ asAgree y frame c
+unfolding asAgree
+agree-way y frame c first count mode a b ef ec em ea eb = rw (ea, eb, ec, em, ef) refl
+
+-- ---- sound_number: a, b and d are the three judgements
 
 module _ (y : System) (frame : List ℕ) (c : ℕ) (a : Bool) (ea : a ≡ everySequence y frame (unflagged 1)) where
   pub sound-23 : not a ≡ true → 23 ≡ firstOf (audioRows y frame c)
@@ -27,15 +36,12 @@ module _ (y : System) (frame : List ℕ) (c : ℕ) (a : Bool) (ea : a ≡ everyS
     pub sound-24 : not b ≡ true → 24 ≡ firstOf (audioRows y frame c)
     sound-24 e = audio-24 y frame c (sym ea ∙ not-false _ oa) (sym eb ∙ not-true _ e)
 
-    module _ (ob : not b ≡ false) (count : ℕ) (ec : count ≡ countFor y frame c) (d : Bool) (ed : d ≡ everyInHalf y frame c (countIs count)) where
-      same : everyInHalf y frame c (countIs (countFor y frame c)) ≡ d
-      same = ap (λ (x : ℕ). everyInHalf y frame c (countIs x)) (sym ec) ∙ sym ed
-
+    module _ (ob : not b ≡ false) (d : Bool) (ed : d ≡ asAgree y frame c) where
       pub sound-25 : not d ≡ true → 25 ≡ firstOf (audioRows y frame c)
-      sound-25 e = audio-25 y frame c (sym ea ∙ not-false _ oa) (sym eb ∙ not-false _ ob) (same ∙ not-true _ e)
+      sound-25 e = audio-25 y frame c (sym ea ∙ not-false _ oa) (sym eb ∙ not-false _ ob) (sym ed ∙ not-true _ e)
 
       pub sound-0 : not d ≡ false → 0 ≡ firstOf (audioRows y frame c)
-      sound-0 e = audio-0 y frame c (sym ea ∙ not-false _ oa) (sym eb ∙ not-false _ ob) (same ∙ not-false _ e)
+      sound-0 e = audio-0 y frame c (sym ea ∙ not-false _ oa) (sym eb ∙ not-false _ ob) (sym ed ∙ not-false _ e)
 
 -- ---- audio_number
 

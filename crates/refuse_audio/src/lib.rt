@@ -1,10 +1,22 @@
 // The audio read's refusals.
 ghost use mathlib.Core.Path.{_≡_};
 ghost use Rattle.base.specs.Calls.{firstOf};
-ghost use Rattle.rules_reads.specs.Audio.{audioRows, audioNumber};
+ghost use Rattle.rules_reads.specs.Audio.{asAgree, audioRows, audioNumber};
 use judges::Test;
 use paper::System;
 use paper::SystemNumber;
+
+// The AS packs of an audio channel say one count and one mode (25).
+fn as_agree(y: System, frame: &[u8], audio: u32) -> bool
+    ensures { λ r. ⌜ r ≡ asAgree y (now (frame .entry)) audio ⌝ }
+{
+    let first = judges::first_as(y, frame, audio);
+    let count = packs::count_in(first);
+    let mode = packs::mode_in(first);
+    let one_count = judges::every_in_half(y, frame, audio, Test::CountIs(count));
+    let one_mode = judges::every_in_half(y, frame, audio, Test::ModeIs(mode));
+    one_count & one_mode
+}
 
 // What a frame is refused for beyond the frame check: 23, 24, 25.
 fn sound_number(y: System, frame: &[u8], audio: u32) -> u32
@@ -16,8 +28,7 @@ fn sound_number(y: System, frame: &[u8], audio: u32) -> u32
     if !judges::every_in_half(y, frame, audio, Test::AsKeeps(audio)) {
         return 24;
     }
-    let count = judges::count_for(y, frame, audio);
-    if !judges::every_in_half(y, frame, audio, Test::CountIs(count)) {
+    if !as_agree(y, frame, audio) {
         return 25;
     }
     0

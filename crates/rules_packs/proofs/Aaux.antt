@@ -9,13 +9,14 @@ use lib.Dec.{eqb, ltb}
 use borrow.Author.Tests.{eq-eqb, ne-eqb, eqb-true, lt-ltb, ltb-true}
 use Rattle.base.specs.Pick.{pick}
 use Rattle.base.specs.Run.{run, tab}
+use Rattle.base.proofs.Cases.{by-eq}
 use Rattle.base.proofs.Picks.{pick-either, both-held}
 use Rattle.paper.specs.declared.System.{System}
 use Rattle.paper.specs.declared.System.the-variants.{I60, I50, P60, P50}
 use Rattle.paper.specs.declared.Pack.{Pack}
 use Rattle.rules_format.specs.Systems.{rateOf, isCount}
 use Rattle.rules_packs.specs.Packs.{packBytes}
-use Rattle.rules_packs.specs.Aaux.{asAt, sizeOf, countOf, modeOf, asPack, countIn, asOk, As}
+use Rattle.rules_packs.specs.Aaux.{asAt, sizeOf, countOf, modeOf, asPack, countIn, modeIn, modeOk, asOk, As}
 use Rattle.rules_format.proofs.Systems.{rate-below}
 
 -- ---- sizeOf, countOf, modeOf
@@ -43,7 +44,18 @@ pub as-mode : tab (λ (k : ℕ). modeOf (k + 1)) 8 ≡ 0 ∷ 1 ∷ 0 ∷ 1 ∷ 0
 unfolding tab run
 as-mode = refl
 
--- ---- asPack, asOk, countIn
+-- ---- modeOk: the audio channel's own, or 1111
+
+pub mode-means : (c mode : ℕ) → modeOk c mode ≡ true → (mode ≡ modeOf c) ⊎ (mode ≡ 0xF)
+mode-means c mode e = by-eq mode (modeOf c) (λ own. inl own) (λ d. inr (eqb-true mode 0xF (rw (ne-eqb mode (modeOf c) d) at e)))
+
+pub mode-when : (c mode : ℕ) → (mode ≡ modeOf c) ⊎ (mode ≡ 0xF) → modeOk c mode ≡ true
+mode-when c mode =
+    ⊎-elim
+    (λ own. rw (eq-eqb mode (modeOf c) own) refl)
+    (λ mark. by-eq mode (modeOf c) (λ own. rw (eq-eqb mode (modeOf c) own) refl) (λ d. rw (ne-eqb mode (modeOf c) d) (eq-eqb mode 0xF mark)))
+
+-- ---- asPack, asOk, countIn, modeIn
 
 -- the known AS of document 01
 pub as-known : packBytes (asPack I60 1602 1) ≡ 0x50 ∷ 0x56 ∷ 0x10 ∷ 0xC3 ∷ 0xC0 ∷ []
@@ -56,7 +68,7 @@ module _ (y : System) (c : ℕ) (p : Pack) where
       let smpQu = eqb (p .pc4 % 64) 0 in
       let stype = eqb (p .pc3 % 32) 3 in
       let rate = eqb (p .pc3 / 32 % 2) (rateOf y) in
-      let mode = eqb (p .pc2 % 16) (modeOf c) in
+      let mode = modeOk c (modeIn p) in
       let chn = ltb (p .pc2) 32 in
       let count = isCount y (countIn p) in
       let lf = ltb (p .pc1) 128 in
@@ -72,7 +84,7 @@ module _ (y : System) (c : ℕ) (p : Pack) where
         lf = ltb-true (p .pc1) 128 (seven .0);
         count = six .0;
         chn = ltb-true (p .pc2) 32 (five .0);
-        mode = eqb-true (p .pc2 % 16) (modeOf c) (four .0);
+        mode = mode-means c (modeIn p) (four .0);
         rate = eqb-true (p .pc3 / 32 % 2) (rateOf y) (three .0);
         stype = eqb-true (p .pc3 % 32) 3 (two .0);
         smpQu = eqb-true (p .pc4 % 64) 0 (two .1);
@@ -85,7 +97,7 @@ module _ (y : System) (c : ℕ) (p : Pack) where
         lt-ltb (p .pc1) 128 (h .lf),
         h .count,
         lt-ltb (p .pc2) 32 (h .chn),
-        eq-eqb (p .pc2 % 16) (modeOf c) (h .mode),
+        mode-when c (modeIn p) (h .mode),
         eq-eqb (p .pc3 / 32 % 2) (rateOf y) (h .rate),
         eq-eqb (p .pc3 % 32) 3 (h .stype),
       )
@@ -107,6 +119,11 @@ pub as-count : (y : System) (count c : ℕ) → isCount y count ≡ true → cou
 unfolding asPack sizeOf countOf pick
 as-count y count c h = own-counts y count h (λ (z : System) (k : ℕ). countIn (asPack z k c) ≡ k) refl refl refl refl refl refl
 
+-- and the audio channel's own mode: our writer marks none
+pub as-own : (y : System) (count c : ℕ) → modeIn (asPack y count c) ≡ modeOf c
+unfolding asPack
+as-own y count c = omega arith
+
 -- what is written is judged right
 pub as-written : (y : System) (count c : ℕ) → isCount y count ≡ true → asOk y c (asPack y count c) ≡ true
 unfolding asPack
@@ -115,7 +132,7 @@ as-written y count c h = as-when y c (asPack y count c) (record {
   lf = omega (arith, size-below count);
   count = rw (as-count y count c h) h;
   chn = omega arith;
-  mode = omega arith;
+  mode = inl (as-own y count c);
   rate = omega (arith, rate-below y);
   stype = omega (arith, rate-below y);
   smpQu = refl;

@@ -58,6 +58,10 @@ pub count-by : (size : ℕ) → countOf size ≡ countBy size
 unfolding countOf countBy
 count-by size = refl
 
+-- a mode is the audio channel's own or 1111, or neither
+mode-or : {P : Type 0} (c pc2 : ℕ) → ((pc2 % 16 ≡ (c + 1) % 2) ⊎ (pc2 % 16 ≡ 0xF) → P) → (pc2 % 16 ≢ (c + 1) % 2 → pc2 % 16 ≢ 0xF → P) → P
+mode-or c pc2 right wrong = by-eq (pc2 % 16) ((c + 1) % 2) (λ own. right (inl own)) (λ d. by-eq (pc2 % 16) 0xF (λ mark. right (inr mark)) (wrong d))
+
 -- ---- digits
 
 digits-or : {P : Type 0} (values most b : ℕ) → (Digits values most b → P) → (WrongDigits values most b → P) → P
@@ -108,7 +112,7 @@ module _ (k : ℕ) (y : System) (known : systemOf k ≡ Known y) where
         (λ count.
         by-lt (p .pc2) 32
         (λ chn.
-        by-eq (p .pc2 % 16) ((c + 1) % 2)
+        mode-or c (p .pc2)
         (λ mode.
         by-eq (p .pc3 / 32 % 2) (rateOf y)
         (λ fifty.
@@ -120,7 +124,7 @@ module _ (k : ℕ) (y : System) (known : systemOf k ≡ Known y) where
         wrongSmpQu)
         wrongStype)
         (λ d. wrongRate (λ z. d (z ∙ cols .rate-is))))
-        wrongMode)
+        (λ d e. wrongMode d e))
         wrongChn)
         (λ d. wrongSize (λ o. clash (own-when k y known (countIn p) (subst (OwnCount k) (sym (count-by (p .pc1 % 64))) o)) d)))
         wrongLf)
@@ -134,7 +138,7 @@ module _ (k : ℕ) (y : System) (known : systemOf k ≡ Known y) where
         broken a (wrongLf l) = omega (arith, l, a .lf)
         broken a (wrongSize d) = d (subst (OwnCount k) (count-by (p .pc1 % 64)) (own-means k y known (countIn p) (a .count)))
         broken a (wrongChn l) = omega (arith, l, a .chn)
-        broken a (wrongMode d) = d (a .mode)
+        broken a (wrongMode d e) = ⊎-elim d e (a .mode)
         broken a (wrongRate d) = d (a .rate ∙ sym (cols .rate-is))
         broken a (wrongStype d) = d (a .stype)
         broken a (wrongSmpQu d) = d (a .smpQu)

@@ -1,7 +1,8 @@
 -- The packs of the audio blocks (document 01, "AAUX"). Audio channels are 1 to 8.
 use mathlib.Core.Path.{_≡_}
-use mathlib.Core.Bool.{Bool, true, _&&_}
+use mathlib.Core.Bool.{Bool, true, _&&_, _||_}
 use mathlib.Core.List.{List}
+use mathlib.Core.Logic.{_⊎_}
 use Prim.Native.Nat.{ℕ, _+_, _*_, _/_, _%_, _<_}
 use lib.Dec.{eqb, ltb}
 use Rattle.base.specs.Pick.{pick}
@@ -47,6 +48,18 @@ aauxPack source asc q a = pairAt (asAt q) source asc a
 abbrev pub countIn : Pack → ℕ
 countIn p = countOf (p .pc1 % 64)
 
+-- the mode that it says
+abbrev pub modeIn : Pack → ℕ
+modeIn p = p .pc2 % 16
+
+-- 1111: "invalid audio data, a legal state"
+abbrev pub isMark : ℕ → Bool
+isMark mode = eqb mode 0xF
+
+-- the audio channel's own mode, or the mark
+abbrev pub modeOk : ℕ → ℕ → Bool
+modeOk c mode = eqb mode (modeOf c) || isMark mode
+
 -- not 24: an AS of audio channel c keeps the rules; "only the system's own counts"
 abbrev pub asOk : System → ℕ → Pack → Bool
 asOk y c p =
@@ -54,7 +67,7 @@ asOk y c p =
     && (ltb (p .pc1) 128
     && (isCount y (countIn p)
     && (ltb (p .pc2) 32
-    && (eqb (p .pc2 % 16) (modeOf c)
+    && (modeOk c (modeIn p)
     && (eqb (p .pc3 / 32 % 2) (rateOf y)
     && (eqb (p .pc3 % 32) 3
     && eqb (p .pc4 % 64) 0))))))
@@ -64,7 +77,7 @@ pub record As (y : System) (c : ℕ) (p : Pack) : Type 0 where
   pub lf : p .pc1 < 128
   pub count : isCount y (countIn p) ≡ true
   pub chn : p .pc2 < 32
-  pub mode : p .pc2 % 16 ≡ modeOf c
+  pub mode : (modeIn p ≡ modeOf c) ⊎ (modeIn p ≡ 0xF)
   pub rate : p .pc3 / 32 % 2 ≡ rateOf y
   pub stype : p .pc3 % 32 ≡ 3
   pub smpQu : p .pc4 % 64 ≡ 0

@@ -19,6 +19,7 @@ use Rattle.base.proofs.Picks.{pick-true, pick-false, first-zero, first-stops}
 use Rattle.base.proofs.Runs.{length-tab, tab-at}
 use Rattle.paper.specs.declared.System.{System}
 use Rattle.paper.specs.declared.SystemNumber.the-variants.{Known, NoSystem}
+use Rattle.paper.specs.declared.Sample.the-variants.{Lost}
 use Rattle.paper.specs.declared.AudioAnswer.{AudioAnswer}
 use Rattle.rules_format.specs.Systems.{sequencesOf, halfOf, positionsOf, isCount, systemOf}
 use Rattle.rules_format.specs.Blocks.{sequenceAt}
@@ -27,8 +28,8 @@ use Rattle.rules_format.specs.Samples.{numberOf}
 use Rattle.rules_format.specs.Sound.{difOf}
 use Rattle.rules_reads.specs.Check.{everySequence, unflagged, checkRows}
 use Rattle.rules_format.specs.Reading.{readSample}
-use Rattle.rules_reads.specs.Audio.{firstOfHalf, everyInHalf, asIn, asKeeps, countIs, countFor, isAudio, audioRows, audioNumber, audioAnswer, heard}
-use Rattle.rules_reads.specs.Audio.{audioLeft, AudioRead}
+use Rattle.rules_reads.specs.Audio.{firstOfHalf, everyInHalf, asIn, asKeeps, firstAs, countFor, isMarked, countIs, asAgree, isAudio}
+use Rattle.rules_reads.specs.Audio.{audioRows, audioNumber, audioAnswer, heardSample, heard, audioLeft, AudioRead}
 use Rattle.rules_format.proofs.Systems.{half-cases, count-below}
 use Rattle.rules_format.proofs.Sound.{half-some}
 use Rattle.rules_packs.proofs.Aaux.{as-means}
@@ -41,23 +42,23 @@ module _ (y : System) (frame : List ℕ) (c : ℕ) where
   unfolding audioRows firstOf pick
   audio-23 e = rw e refl
 
-  module _ (unmarked : everySequence y frame (unflagged 1) ≡ true) where
+  module _ (valid : everySequence y frame (unflagged 1) ≡ true) where
     pub audio-24 : everyInHalf y frame c (asKeeps y c) ≡ false → 24 ≡ firstOf (audioRows y frame c)
     unfolding audioRows firstOf pick
-    audio-24 e = rw (unmarked, e) refl
+    audio-24 e = rw (valid, e) refl
 
     module _ (kept : everyInHalf y frame c (asKeeps y c) ≡ true) where
-      pub audio-25 : everyInHalf y frame c (countIs (countFor y frame c)) ≡ false → 25 ≡ firstOf (audioRows y frame c)
+      pub audio-25 : asAgree y frame c ≡ false → 25 ≡ firstOf (audioRows y frame c)
       unfolding audioRows firstOf pick
-      audio-25 e = rw (unmarked, kept, e) refl
+      audio-25 e = rw (valid, kept, e) refl
 
-      pub audio-0 : everyInHalf y frame c (countIs (countFor y frame c)) ≡ true → 0 ≡ firstOf (audioRows y frame c)
+      pub audio-0 : asAgree y frame c ≡ true → 0 ≡ firstOf (audioRows y frame c)
       unfolding audioRows firstOf pick
-      audio-0 e = rw (unmarked, kept, e) refl
+      audio-0 e = rw (valid, kept, e) refl
 
   -- 0 says that no row holds
   pub audio-mean : firstOf (audioRows y frame c) ≡ 0
-      → (everySequence y frame (unflagged 1) ≡ true) × (everyInHalf y frame c (asKeeps y c) ≡ true) × (everyInHalf y frame c (countIs (countFor y frame c)) ≡ true)
+      → (everySequence y frame (unflagged 1) ≡ true) × (everyInHalf y frame c (asKeeps y c) ≡ true) × (asAgree y frame c ≡ true)
   unfolding audioRows
   audio-mean z =
       let a = first-zero _ _ _ z in
@@ -67,7 +68,7 @@ module _ (y : System) (frame : List ℕ) (c : ℕ) where
 
   -- and then the count that is answered is one of the system's own, below its positions
   pub count-own : everyInHalf y frame c (asKeeps y c) ≡ true → isCount y (countFor y frame c) ≡ true
-  unfolding countFor
+  unfolding firstAs
   count-own e =
       let first = from-means y frame (asKeeps y c) _ _ _ e 0 (half-some _ (half-cases y)) in
       as-means y c (asIn (firstOfHalf y c) (sequenceAt y frame (difOf c) (firstOfHalf y c))) (simp add-zero at first) .count
@@ -82,6 +83,17 @@ module _ (y : System) (frame : List ℕ) (c : ℕ) where
     pub half-count : everyInHalf y frame c (countIs (countFor y frame c)) ≡ true
         → countIn (asIn (firstOfHalf y c + r) (sequenceAt y frame (difOf c) (firstOfHalf y c + r))) ≡ countFor y frame c
     half-count e = eqb-true _ _ (from-means y frame (countIs (countFor y frame c)) (difOf c) (firstOfHalf y c) (halfOf y) e r hr)
+
+-- ---- heardSample
+
+module _ (y : System) (frame : List ℕ) (c t : ℕ) where
+  pub heard-marked : isMarked y frame c ≡ true → heardSample y frame c t ≡ Lost
+  unfolding heardSample
+  heard-marked e = pick-true _ _ e
+
+  pub heard-recorded : isMarked y frame c ≡ false → heardSample y frame c t ≡ readSample y frame c t
+  unfolding heardSample
+  heard-recorded e = pick-false _ _ e
 
 -- ---- audioNumber
 
@@ -161,13 +173,13 @@ module _ (k : ℕ) (frame : List ℕ) (c : ℕ) (list : List ℤ) where
   module _ (y : System) (known : systemOf k ≡ Known y) (zero : audioNumber k frame c (length list) ≡ 0) where
     pub audio-taken : {r : AudioAnswer} {list′ : List ℤ} → AudioRead k frame c list r list′
         → (r ≡ record { number = 0; count = countFor y frame c })
-        × (list′ ≡ tab (λ (t : ℕ). numberOf (readSample y frame c t)) (countFor y frame c) ++ drop (countFor y frame c) list)
+        × (list′ ≡ tab (λ (t : ℕ). numberOf (heardSample y frame c t)) (countFor y frame c) ++ drop (countFor y frame c) list)
     unfolding audioAnswer audioLeft heard
     audio-taken a = (a .answer ∙ pick-true _ _ (eq-eqb _ 0 zero) ∙ rw known refl, a .left ∙ pick-true _ _ (eq-eqb _ 0 zero) ∙ rw known refl)
 
     -- the same as the code leaves it
     pub audio-done : (r : AudioAnswer) (list′ : List ℤ) → r ≡ record { number = 0; count = countFor y frame c }
-        → list′ ≡ tab (λ (t : ℕ). numberOf (readSample y frame c t)) (countFor y frame c) ++ drop (countFor y frame c) list → AudioRead k frame c list r list′
+        → list′ ≡ tab (λ (t : ℕ). numberOf (heardSample y frame c t)) (countFor y frame c) ++ drop (countFor y frame c) list → AudioRead k frame c list r list′
     unfolding audioAnswer audioLeft heard
     audio-done r list′ er el = record {
       answer = er ∙ sym (pick-true _ _ (eq-eqb _ 0 zero) ∙ rw known refl);
@@ -183,10 +195,10 @@ module _ (k : ℕ) (frame : List ℕ) (c : ℕ) (list : List ℤ) where
 
     module _ {r : AudioAnswer} {list′ : List ℤ} (a : AudioRead k frame c list r list′) where
       -- a sample below the count is what the frame says of it
-      pub audio-sample : (t : ℕ) → t < r .count → getD list′ t (pos 0) ≡ numberOf (readSample y frame c t)
+      pub audio-sample : (t : ℕ) → t < r .count → getD list′ t (pos 0) ≡ numberOf (heardSample y frame c t)
       audio-sample t h =
           let n = countFor y frame c in
-          let g : ℕ → ℤ = λ i. numberOf (readSample y frame c i) in
+          let g : ℕ → ℤ = λ i. numberOf (heardSample y frame c i) in
           let b : t < n = omega (arith, h, ap (λ (x : AudioAnswer). x .count) (audio-taken a .0)) in
           ap (λ (l : List ℤ). getD l t (pos 0)) (audio-taken a .1) ∙ List·getD-append (tab g n) (drop n list) (pos 0) t (omega (arith, b, length-tab g n)) ∙ tab-at (pos 0) g t n b
 
@@ -194,7 +206,7 @@ module _ (k : ℕ) (frame : List ℕ) (c : ℕ) (list : List ℤ) where
       pub audio-rest : (i : ℕ) → getD list′ (r .count + i) (pos 0) ≡ getD list (r .count + i) (pos 0)
       audio-rest i =
           let n = countFor y frame c in
-          let g : ℕ → ℤ = λ j. numberOf (readSample y frame c j) in
+          let g : ℕ → ℤ = λ j. numberOf (heardSample y frame c j) in
           let e : r .count ≡ n = ap (λ (x : AudioAnswer). x .count) (audio-taken a .0) in
           rw e
           (ap (λ (l : List ℤ). getD l (n + i) (pos 0)) (audio-taken a .1)

@@ -1,24 +1,28 @@
 -- What 24 and 25 are given for, in document 01's bytes. Assumes nothing.
 use mathlib.Core.Path.{_≡_, sym, ap, _∙_, subst}
-use mathlib.Core.Bool.{Bool, true, false, not}
+use mathlib.Core.Bool.{Bool, true, false, not, _&&_}
 use mathlib.Core.List.{List, _∷_}
+use mathlib.Core.Logic.{inl, inr, ⊎-elim}
 use Prim.Native.Nat.{ℕ, _+_, _*_, _/_, _%_, _<_}
 use native.Mathlib.Nat.{add-zero}
 use native.Mathlib.Omega.{arith}
+use lib.Dec.{eqb}
 use lib.ListN.{getD}
 use borrow.Author.Tests.{eqb-true, eqb-false, not-true, not-false}
 use Rattle.base.specs.Calls.{Refusal, firstOf, _when_}
+use Rattle.base.proofs.Cases.{by-bool, clash}
+use Rattle.base.proofs.Picks.{both-held, both-hold}
 use Rattle.paper.specs.declared.System.{System}
-use Rattle.rules_packs.specs.Aaux.{asOk, asAt, countIn}
-use Rattle.promises.specs.Refusals.{AsBreaks, Table, _if_, _else_, SomeInHalf, asByte, CountsDiffer}
+use Rattle.rules_packs.specs.Aaux.{asOk, asAt, countIn, modeIn}
+use Rattle.promises.specs.Refusals.{AsBreaks, Table, _if_, _else_, SomeInHalf, asByte, DifferInHalf, AsDiffer}
 use Rattle.rules_packs.proofs.Judged.{as-same, as-wrong, as-right, count-by}
 use Rattle.paper.specs.declared.SystemNumber.the-variants.{Known}
 use Rattle.paper.specs.declared.Pack.{Pack}
 use Rattle.rules_format.specs.Systems.{halfOf, systemOf}
 use Rattle.rules_format.specs.Blocks.{sequenceAt, blockIn}
 use Rattle.rules_format.specs.Sound.{difOf}
-use Rattle.rules_reads.specs.Audio.{firstOfHalf, everyInHalf, asIn, asKeeps, countIs, countFor}
-use Rattle.paper.specs.Paper.{sequences, soundChannel, soundFirst, asPack, countBy, countSaid}
+use Rattle.rules_reads.specs.Audio.{firstOfHalf, everyInHalf, asIn, asKeeps, firstAs, countFor, modeFor, countIs, modeIs, asAgree}
+use Rattle.paper.specs.Paper.{sequences, soundChannel, soundFirst, asPack, countSaid, modeSaid}
 use Rattle.rules_format.proofs.Paper.{Columns, columns}
 use Rattle.rules_format.proofs.Systems.{half-cases}
 use Rattle.rules_format.proofs.Sound.{half-some}
@@ -77,9 +81,6 @@ module _ (k : ℕ) (y : System) (known : systemOf k ≡ Known y) (f : List ℕ) 
       let b4 = as-byte q 4 (omega arith) in
       λ i. record { pc0 = b0 i; pc1 = b1 i; pc2 = b2 i; pc3 = b3 i; pc4 = b4 i }
 
-  count-is : (q : ℕ) → countBy (at q 1 % 64) ≡ countIn (source q)
-  count-is q = sym (count-by (at q 1 % 64)) ∙ sym (ap countIn (as-is q))
-
   as-breaks : (q : ℕ) → asKeeps y c q (sequenceAt y f (difOf c) q) ≡ false → AsBreaks k f c (difOf c) q
   as-breaks q e = as-wrong k y known c (record { pc0 = at q 0; pc1 = at q 1; pc2 = at q 2; pc3 = at q 3; pc4 = at q 4 }) (sym (ap (asOk y c) (as-is q)) ∙ e)
 
@@ -90,32 +91,69 @@ module _ (k : ℕ) (y : System) (known : systemOf k ≡ Known y) (f : List ℕ) 
       → Exactly (24 if SomeInHalf (sequences k) c (AsBreaks k f c) else table) (firstOf (24 when not (everyInHalf y f c (asKeeps y c)) ∷ rows))
   row-24 table rows rest = half-every 24 (AsBreaks k f c) (asKeeps y c) table rows as-breaks as-kept rest
 
-  -- ---- 25
+  -- ---- 25: what an AS says, in the definitions and in the frame's bytes
+
+  module _ (says : Pack → ℕ) (said : ℕ → ℕ → ℕ) (same : (q : ℕ) → said (difOf c) q ≡ says (source q)) where
+    pub first-says : says (firstAs y f c) ≡ said (soundChannel c) (soundFirst (sequences k) c)
+    unfolding firstAs
+    first-says = sym (same (firstOfHalf y c)) ∙ ap (said (difOf c)) (sym first-is)
+
+    -- every AS says what the first says
+    abbrev agrees : ℕ → List ℕ → Bool
+    agrees q part = eqb (says (asIn q part)) (says (firstAs y f c))
+
+    rank-says : (r : ℕ) → said (difOf c) (soundFirst (sequences k) c + r) ≡ says (source (firstOfHalf y c + r))
+    rank-says r = rw first-is (same (firstOfHalf y c + r))
+
+    half-differs : everyInHalf y f c agrees ≡ false → DifferInHalf (sequences k) c said
+    half-differs e =
+        from-some y f agrees (difOf c) (firstOfHalf y c) (halfOf y) e (λ r l d. record {
+          r = r;
+          r′ = 0;
+          rank = omega (arith, half-is);
+          rank′ = omega (arith, half-is, half-some (halfOf y) (half-cases y));
+          differ = λ z. eqb-false _ _ d (sym (rank-says r) ∙ z ∙ ap (said (difOf c)) (add-zero (soundFirst (sequences k) c)) ∙ sym first-says);
+        })
+
+    half-agrees : everyInHalf y f c agrees ≡ true → DifferInHalf (sequences k) c said → ⊥
+    half-agrees e d = d .differ (rank-same (d .r) (d .rank) ∙ sym (rank-same (d .r′) (d .rank′)))
+      where
+        rank-same : (r : ℕ) → r < sequences k / 2 → said (difOf c) (soundFirst (sequences k) c + r) ≡ says (firstAs y f c)
+        rank-same r l = rank-says r ∙ eqb-true _ _ (from-means y f agrees (difOf c) (firstOfHalf y c) (halfOf y) e r (omega (arith, half-is)))
+
+  count-said : (q : ℕ) → countSaid (sequences k) f (difOf c) q ≡ countIn (source q)
+  count-said q = sym (count-by (at q 1 % 64)) ∙ sym (ap countIn (as-is q))
+
+  mode-said : (q : ℕ) → modeSaid (sequences k) f (difOf c) q ≡ modeIn (source q)
+  mode-said q = sym (ap modeIn (as-is q))
 
   pub count-first : countFor y f c ≡ countSaid (sequences k) f (soundChannel c) (soundFirst (sequences k) c)
-  unfolding countFor
-  count-first = sym (count-is (firstOfHalf y c)) ∙ ap (λ (q : ℕ). countSaid (sequences k) f (difOf c) q) (sym first-is)
+  count-first = first-says countIn (countSaid (sequences k) f) count-said
 
-  pub row-25 : (table : Table) (rows : List Refusal) → (everyInHalf y f c (countIs (countFor y f c)) ≡ true → Exactly table (firstOf rows))
-      → Exactly (25 if CountsDiffer (sequences k) f c else table) (firstOf (25 when not (everyInHalf y f c (countIs (countFor y f c))) ∷ rows))
+  pub mode-first : modeFor y f c ≡ modeSaid (sequences k) f (soundChannel c) (soundFirst (sequences k) c)
+  mode-first = first-says modeIn (modeSaid (sequences k) f) mode-said
+
+  pub row-25 : (table : Table) (rows : List Refusal) → Exactly table (firstOf rows)
+      → Exactly (25 if AsDiffer (sequences k) f c else table) (firstOf (25 when not (asAgree y f c) ∷ rows))
+  unfolding asAgree
   row-25 table rows rest =
-      row-exactly 25 (not (everyInHalf y f c (countIs (countFor y f c)))) table rows
+      row-exactly 25 (not (counted && moded)) table rows
       (λ e.
-      from-some y f (countIs (countFor y f c)) (difOf c) (firstOfHalf y c) (halfOf y) (not-true _ e) (λ r l d. record {
-        r = r;
-        r′ = 0;
-        rank = omega (arith, half-is);
-        rank′ = omega (arith, half-is, half-some (halfOf y) (half-cases y));
-        differ = λ z. eqb-false _ _ d (sym (said r) ∙ z ∙ ap (λ (q : ℕ). countSaid (sequences k) f (difOf c) q) (add-zero (soundFirst (sequences k) c)) ∙ sym count-first);
-      }))
-      (λ e d. d .differ (same e (d .r) (d .rank) ∙ sym (same e (d .r′) (d .rank′))))
-      (λ e. rest (not-false _ e))
+      by-bool counted
+      (λ yes.
+      by-bool moded
+      (λ both. absurd (clash (both-hold yes both) (not-true _ e)))
+      (λ no. inr (half-differs modeIn (modeSaid (sequences k) f) mode-said no)))
+      (λ no. inl (half-differs countIn (countSaid (sequences k) f) count-said no)))
+      (λ e.
+      let two = both-held counted moded (not-false _ e) in
+      ⊎-elim
+      (half-agrees countIn (countSaid (sequences k) f) count-said (two .0))
+      (half-agrees modeIn (modeSaid (sequences k) f) mode-said (two .1)))
+      (λ e. rest)
     where
-      said : (r : ℕ) → countSaid (sequences k) f (difOf c) (soundFirst (sequences k) c + r) ≡ countIn (source (firstOfHalf y c + r))
-      said r = rw first-is (count-is (firstOfHalf y c + r))
+      counted : Bool
+      counted = everyInHalf y f c (countIs (countFor y f c))
 
-      same : not (everyInHalf y f c (countIs (countFor y f c))) ≡ false → (r : ℕ) → r < sequences k / 2
-          → countSaid (sequences k) f (difOf c) (soundFirst (sequences k) c + r) ≡ countFor y f c
-      same e r l =
-          said r
-          ∙ eqb-true _ _ (from-means y f (countIs (countFor y f c)) (difOf c) (firstOfHalf y c) (halfOf y) (not-false _ e) r (omega (arith, half-is)))
+      moded : Bool
+      moded = everyInHalf y f c (modeIs (modeFor y f c))

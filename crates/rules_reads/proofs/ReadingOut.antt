@@ -1,12 +1,14 @@
 -- The workshop of the second demand, of the strict reads: what is read of any frame, in document 01's numbers and bytes. Assumes nothing.
 use mathlib.Core.Path.{_≡_, refl, sym, ap, ap₂, _∙_}
 use mathlib.Core.List.{List, _∷_}
+use mathlib.Core.Logic.{_≢_}
 use Prim.Native.Nat.{ℕ, _+_, _*_, _<_}
 use native.Mathlib.Omega.{arith}
 use lib.Dec.{eqb}
 use lib.IntN.{ℤ, pos}
 use lib.ListN.{length, getD, drop, length-append, length-drop}
 use lib.Seq.{drop-at}
+use borrow.Author.Tests.{eq-eqb, ne-eqb}
 use Rattle.base.specs.Pick.{pick}
 use Rattle.base.specs.Run.{run, tab}
 use Rattle.base.proofs.Cases.{by-eq}
@@ -21,8 +23,7 @@ use Rattle.rules_format.specs.Systems.{sequencesOf, rateOf, systemOf}
 use Rattle.rules_format.specs.Blocks.{blockAt, sequenceAt, blockIn}
 use Rattle.rules_format.specs.Samples.{numberOf}
 use Rattle.rules_picture.specs.Picture.{slot, carriedIn}
-use Rattle.rules_format.specs.Reading.{readSample}
-use Rattle.rules_reads.specs.Audio.{countFor, audioNumber, AudioRead}
+use Rattle.rules_reads.specs.Audio.{countFor, modeFor, heardSample, audioNumber, AudioRead}
 use Rattle.rules_reads.specs.Macroblock.{macroblockNumber, slotBytes, macroblockAt, slotStart, carrierStart, MacroblockRead, MacroblockLies}
 use Rattle.rules_reads.specs.Macroblock.{MacroblockNumbered}
 use Rattle.rules_reads.specs.Time.{withBit6, settled, timeFirst, groupFirst, timeNumber, TimeRead}
@@ -33,7 +34,7 @@ use Rattle.rules_reads.specs.Strict.{StrictlyRead}
 use Rattle.paper.specs.Bytes.{firstAnswered}
 use Rattle.rules_format.proofs.Blocks.{block-in-sequence, block-length, part-taken}
 use Rattle.rules_format.proofs.Systems.{sequences-some}
-use Rattle.rules_reads.proofs.Audio.{audio-1, audio-zero, audio-refused, audio-taken, audio-count, audio-sample}
+use Rattle.rules_reads.proofs.Audio.{heard-marked, heard-recorded, audio-1, audio-zero, audio-refused, audio-taken, audio-count, audio-sample}
 use Rattle.rules_reads.proofs.Macroblock.{macroblock-1, macroblock-carried, macroblock-lies-number}
 use Rattle.rules_reads.proofs.Time.{time-1, time-zero, time-taken}
 use Rattle.rules_picture.proofs.Picture.{carried-lies}
@@ -41,7 +42,7 @@ use Rattle.rules_reads.proofs.Answering.{audio-number, time-number}
 use Rattle.rules_format.proofs.Paper.{columns, by-system, byte-in, bytes-at, rest-bytes}
 use Rattle.rules_format.proofs.Numbers.{sound-heard}
 use Rattle.rules_picture.proofs.Slots.{carried-is}
-use Rattle.rules_reads.proofs.GroundsAudio.{count-first}
+use Rattle.rules_reads.proofs.GroundsAudio.{count-first, mode-first}
 use Rattle.rules_reads.specs.Check.{Checked}
 
 -- ---- read_audio
@@ -52,13 +53,18 @@ module _ {k : ℕ} {f : List ℕ} {c : ℕ} {samples samples′ : List ℤ} {r :
     count-is : r .count ≡ countFor y f c
     count-is = ap (λ (a : AudioAnswer). a .count) (audio-taken k f c samples y known z read .0)
 
-    sample-out : (t : ℕ) → t < r .count → getD samples′ t (pos 0) ≡ sampleBy (soundWord (sequencesOf y) f c t)
-    sample-out t h =
+    sample-out : modeFor y f c ≢ 0xF → (t : ℕ) → t < r .count → getD samples′ t (pos 0) ≡ sampleBy (soundWord (sequencesOf y) f c t)
+    sample-out d t h =
         audio-sample k f c samples y known z read t h
+        ∙ ap numberOf (heard-recorded y f c t (ne-eqb _ _ d))
         ∙ sound-heard y f c t (omega (arith, h, count-is, audio-count k f c samples y known z, audio-zero k f c (length samples) y known z .2))
 
+    -- whatever the words are
+    lost-out : modeFor y f c ≡ 0xF → (t : ℕ) → t < r .count → getD samples′ t (pos 0) ≡ pos 32768
+    lost-out mark t h = audio-sample k f c samples y known z read t h ∙ ap numberOf (heard-marked y f c t (eq-eqb _ _ mark))
+
     heard-out : List ℤ
-    heard-out = tab (λ (t : ℕ). numberOf (readSample y f c t)) (countFor y f c)
+    heard-out = tab (λ (t : ℕ). numberOf (heardSample y f c t)) (countFor y f c)
 
     rest-out : drop (r .count) samples′ ≡ drop (r .count) samples
     unfolding heard-out
@@ -74,7 +80,7 @@ module _ {k : ℕ} {f : List ℕ} {c : ℕ} {samples samples′ : List ℤ} {r :
         ∙ length-append heard-out (drop (countFor y f c) samples)
         ∙ omega (
           arith,
-          length-tab (λ (t : ℕ). numberOf (readSample y f c t)) (countFor y f c),
+          length-tab (λ (t : ℕ). numberOf (heardSample y f c t)) (countFor y f c),
           length-drop (countFor y f c) samples,
           audio-count k f c samples y known z,
         )
@@ -162,9 +168,10 @@ read-out {k} {f} {c} {samples} {b} {o} read =
     let time : o .time .number ≡ 0 → timeNumber k f ≡ 0 = λ z. sym (time-number k f (read .time)) ∙ z in
     record {
       count = λ z. by-audio (read .audio) (audio z) (λ y known. count-is (read .audio) y known (audio z) ∙ count-first k y known f c);
-      sample = λ z t h.
+      sample = λ z d t h.
           by-audio (read .audio) (audio z) (λ y known.
-          sample-out (read .audio) y known (audio z) t (omega (arith, h)) ∙ rw (columns k y known .sequences-is) refl);
+          sample-out (read .audio) y known (audio z) (λ e. d (sym (mode-first k y known f c) ∙ e)) t h ∙ rw (columns k y known .sequences-is) refl);
+      unrecorded = λ z mark t h. by-audio (read .audio) (audio z) (λ y known. lost-out (read .audio) y known (audio z) (mode-first k y known f c ∙ mark) t h);
       rest = λ z. by-audio (read .audio) (audio z) (λ y known. rest-out (read .audio) y known (audio z));
       size = length-out (read .audio);
       macroblock = λ z h q g m hh hq hg hm e. part-out k f b (sym (read .number .answer) ∙ z) h q g m hh hq hg hm e (read .part);

@@ -81,7 +81,7 @@ audio-exactly k f c room =
     row-exactly 3 (not (isAudio c)) _ _ (audio-means c) (audio-not c) (λ channel.
     row-differs 4 room (positionsOf y) (positions k) _ _ (columns k y known .positions-is) (λ fits.
     checked-exactly k y known f whole _ (audioRows y f c)
-    (row-23 k y known f 1 (omega arith) _ _ (row-24 k y known f c _ _ (λ kept. row-25 k y known f c none [] (λ same. exactly-none))))))))
+    (row-23 k y known f 1 (omega arith) _ _ (row-24 k y known f c _ _ (λ kept. row-25 k y known f c none [] exactly-none)))))))
 
 -- ---- macroblock_number, macroblock, macroblock_at
 

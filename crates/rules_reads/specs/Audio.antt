@@ -12,11 +12,13 @@ use Rattle.base.specs.Run.{tab}
 use Rattle.paper.specs.declared.System.{System}
 use Rattle.paper.specs.declared.Section.the-variants.{Audio}
 use Rattle.paper.specs.declared.Pack.{Pack}
+use Rattle.paper.specs.declared.Sample.{Sample}
+use Rattle.paper.specs.declared.Sample.the-variants.{Lost}
 use Rattle.paper.specs.declared.AudioAnswer.{AudioAnswer}
 use Rattle.rules_format.specs.Systems.{halfOf, inSystem, systemOf, isNoSystem, positionsIn, rowsIn, frameBytes}
 use Rattle.rules_format.specs.Places.{placeIn}
 use Rattle.rules_format.specs.Blocks.{sequenceAt, blockIn}
-use Rattle.rules_packs.specs.Aaux.{asAt, countIn, asOk, aauxIn}
+use Rattle.rules_packs.specs.Aaux.{asAt, countIn, modeIn, isMark, asOk, aauxIn}
 use Rattle.rules_format.specs.Samples.{numberOf}
 use Rattle.rules_format.specs.Sound.{difOf, halfAt}
 use Rattle.rules_reads.specs.Check.{everyFrom, everySequence, unflagged, checkRows}
@@ -40,13 +42,31 @@ asIn q part = aauxIn (blockIn part (placeIn Audio (asAt q)))
 abbrev pub asKeeps : System → ℕ → ℕ → List ℕ → Bool
 asKeeps y c q part = asOk y c (asIn q part)
 
--- not 25: "the channel's AS packs differ in count"
+-- its first AS
+unfoldable pub firstAs : System → List ℕ → ℕ → Pack
+firstAs y frame c = asIn (firstOfHalf y c) (sequenceAt y frame (difOf c) (firstOfHalf y c))
+
+-- the count and the mode that it says
+abbrev pub countFor : System → List ℕ → ℕ → ℕ
+countFor y frame c = countIn (firstAs y frame c)
+
+abbrev pub modeFor : System → List ℕ → ℕ → ℕ
+modeFor y frame c = modeIn (firstAs y frame c)
+
+-- "mark the others with audio mode 1111"
+abbrev pub isMarked : System → List ℕ → ℕ → Bool
+isMarked y frame c = isMark (modeFor y frame c)
+
+-- an AS says this count, this mode
 abbrev pub countIs : ℕ → ℕ → List ℕ → Bool
 countIs count q part = eqb (countIn (asIn q part)) count
 
--- the count that its first AS says
-unfoldable pub countFor : System → List ℕ → ℕ → ℕ
-countFor y frame c = countIn (asIn (firstOfHalf y c) (sequenceAt y frame (difOf c) (firstOfHalf y c)))
+abbrev pub modeIs : ℕ → ℕ → List ℕ → Bool
+modeIs mode q part = eqb (modeIn (asIn q part)) mode
+
+-- not 25: "the channel's AS packs differ in count"; "25 also covers AS packs that differ in mode"
+unfoldable pub asAgree : System → List ℕ → ℕ → Bool
+asAgree y frame c = everyInHalf y frame c (countIs (countFor y frame c)) && everyInHalf y frame c (modeIs (modeFor y frame c))
 
 -- ---- the refusals in their order
 
@@ -59,7 +79,7 @@ unfoldable pub audioRows : System → List ℕ → ℕ → List Refusal
 audioRows y frame c =
     23 when not (everySequence y frame (unflagged 1))
     ∷ 24 when not (everyInHalf y frame c (asKeeps y c))
-    ∷ 25 when not (everyInHalf y frame c (countIs (countFor y frame c)))
+    ∷ 25 when not (asAgree y frame c)
     ∷ []
 
 -- system k, the frame, audio channel c, a list of so many entries
@@ -79,8 +99,12 @@ audioAnswer k frame c size =
     (record { number = 0; count = inSystem 0 (λ (y : System). countFor y frame c) (systemOf k) })
     (record { number = audioNumber k frame c size; count = 0 })
 
+-- "hands out every sample up to it as lost"
+unfoldable pub heardSample : System → List ℕ → ℕ → ℕ → Sample
+heardSample y frame c t = pick (isMarked y frame c) Lost (readSample y frame c t)
+
 unfoldable pub heard : System → List ℕ → ℕ → List ℤ → List ℤ
-heard y frame c list = tab (λ (t : ℕ). numberOf (readSample y frame c t)) (countFor y frame c) ++ drop (countFor y frame c) list
+heard y frame c list = tab (λ (t : ℕ). numberOf (heardSample y frame c t)) (countFor y frame c) ++ drop (countFor y frame c) list
 
 unfoldable pub audioLeft : ℕ → List ℕ → ℕ → List ℤ → List ℤ
 audioLeft k frame c list = pick (eqb (audioNumber k frame c (length list)) 0) (inSystem list (λ (y : System). heard y frame c list) (systemOf k)) list

@@ -16,11 +16,8 @@ every-in-half-requires c κs = search needs
 returns-2 : tie.Need-returns-2
 returns-2 c = search (sound-24, needs)
 
-count-for-requires : tie.Need-count-for-requires
-count-for-requires c κs = search needs
-
-every-in-half-requires-2 : tie.Need-every-in-half-requires-2
-every-in-half-requires-2 c κs = search needs
+as-agree-requires : tie.Need-as-agree-requires
+as-agree-requires c κs = search needs
 
 returns-3 : tie.Need-returns-3
 returns-3 c = search (sound-25, needs)
@@ -36,7 +33,6 @@ sound-number-spec =
     returns
     every-in-half-requires
     returns-2
-    count-for-requires
-    every-in-half-requires-2
+    as-agree-requires
     returns-3
     returns-4)

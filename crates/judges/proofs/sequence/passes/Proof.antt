@@ -1,6 +1,6 @@
 -- `judges::sequence::passes` meets its contract: one lemma for each test. Assumes nothing.
 use borrow.Author.Needs.{needs}
-use Rattle.judges.proofs.Ways.{dsf-arm, vs-arm, flag-arm, as-arm, count-arm, subcode-arm}
+use Rattle.judges.proofs.Ways.{dsf-arm, vs-arm, flag-arm, as-arm, count-arm, mode-arm, subcode-arm}
 use Rattle.judges.proofs.sequence.passes.Statement.{statement}
 use Rattle.judges.proofs.sequence.passes.Tie as tie
 
@@ -43,6 +43,15 @@ count-in-requires c κs = search needs
 enum-known-test-4 : tie.Need-enum-known-test-4
 enum-known-test-4 c = search needs
 
+as-in-requires-3 : tie.Need-as-in-requires-3
+as-in-requires-3 c κs = search needs
+
+mode-in-requires : tie.Need-mode-in-requires
+mode-in-requires c κs = search needs
+
+enum-known-test-5 : tie.Need-enum-known-test-5
+enum-known-test-5 c = search needs
+
 subcode-agrees-requires : tie.Need-subcode-agrees-requires
 subcode-agrees-requires c κs = search needs
 
@@ -62,7 +71,10 @@ returns-5 : tie.Need-returns-5
 returns-5 c = search (count-arm, needs)
 
 returns-6 : tie.Need-returns-6
-returns-6 c = search (subcode-arm, needs)
+returns-6 c = search (mode-arm, needs)
+
+returns-7 : tie.Need-returns-7
+returns-7 c = search (subcode-arm, needs)
 
 pub passes-spec : {M : Type 1} → statement M
 passes-spec =
@@ -81,10 +93,14 @@ passes-spec =
     as-in-requires-2
     count-in-requires
     enum-known-test-4
+    as-in-requires-3
+    mode-in-requires
+    enum-known-test-5
     subcode-agrees-requires
     returns
     returns-2
     returns-3
     returns-4
     returns-5
-    returns-6)
+    returns-6
+    returns-7)

@@ -13,14 +13,14 @@ is-count-requires c κs = search needs
 rate-requires : tie.Need-rate-requires
 rate-requires c κs = search needs
 
-mode-of-requires : tie.Need-mode-of-requires
-mode-of-requires c κs = search needs
+mode-in-requires : tie.Need-mode-in-requires
+mode-in-requires c κs = search needs
+
+mode-ok-requires : tie.Need-mode-ok-requires
+mode-ok-requires c κs = search needs
 
 wide-requires : tie.Need-wide-requires
 wide-requires c κs = search needs
-
-wide-requires-2 : tie.Need-wide-requires-2
-wide-requires-2 c κs = search needs
 
 returns : tie.Need-returns
 returns c = search (as-judged, needs)
@@ -32,7 +32,7 @@ as-ok-spec =
     count-in-requires
     is-count-requires
     rate-requires
-    mode-of-requires
+    mode-in-requires
+    mode-ok-requires
     wide-requires
-    wide-requires-2
     returns)

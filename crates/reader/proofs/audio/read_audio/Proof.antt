@@ -29,20 +29,29 @@ refused-requires-2 c κs = search needs
 returns-2 : tie.Need-returns-2
 returns-2 c = search (audio-stopped, needs)
 
-count-for-requires : tie.Need-count-for-requires
-count-for-requires c κs = search needs
+first-as-requires : tie.Need-first-as-requires
+first-as-requires c κs = search needs
+
+count-in-requires : tie.Need-count-in-requires
+count-in-requires c κs = search needs
+
+mode-in-requires : tie.Need-mode-in-requires
+mode-in-requires c κs = search needs
+
+is-mark-requires : tie.Need-is-mark-requires
+is-mark-requires c κs = search needs
 
 cast-end : tie.Need-cast-end
 cast-end c = search needs
 
-slice-relend-prefix-samples-of : tie.Need-slice-relend-prefix-samples-of
-slice-relend-prefix-samples-of c = search (audio-ends, needs)
+slice-relend-prefix-hear : tie.Need-slice-relend-prefix-hear
+slice-relend-prefix-hear c = search (audio-ends, needs)
 
-slice-aggregate-samples-of : tie.Need-slice-aggregate-samples-of
-slice-aggregate-samples-of c = search (prefix-lent, audio-ends, needs)
+slice-aggregate-hear : tie.Need-slice-aggregate-hear
+slice-aggregate-hear c = search (prefix-lent, audio-ends, needs)
 
-samples-of-requires : tie.Need-samples-of-requires
-samples-of-requires c κs = search needs
+hear-requires : tie.Need-hear-requires
+hear-requires c κs = search needs
 
 same-length : tie.Need-same-length
 same-length c = search needs
@@ -62,10 +71,13 @@ read-audio-spec =
     audio-number-requires
     refused-requires-2
     returns-2
-    count-for-requires
+    first-as-requires
+    count-in-requires
+    mode-in-requires
+    is-mark-requires
     cast-end
-    slice-relend-prefix-samples-of
-    slice-aggregate-samples-of
-    samples-of-requires
+    slice-relend-prefix-hear
+    slice-aggregate-hear
+    hear-requires
     same-length
     returns-3)
