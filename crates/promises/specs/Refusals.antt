@@ -169,18 +169,22 @@ checked k f rows = FirstFault (sequences k) f else 21 if Some (sequences k) (Wro
 abbrev pub checkTable : ℕ → List ℕ → Table
 checkTable k f = 1 if (3 < k) else 2 if (length f ≢ 48000 * sequences k) else checked k f none
 
--- "audio read adds 23-25": "audio read, the system's positions"
+-- "audio read adds 23-25"
+abbrev pub soundTable : ℕ → List ℕ → ℕ → Table
+soundTable k f c =
+    23 if Some (sequences k) (Flagged 5 (sequences k) f)
+    else 24 if SomeInHalf (sequences k) c (AsBreaks k f c)
+    else 25 if AsDiffer (sequences k) f c
+    else none
+
+-- "audio read, the system's positions"
 abbrev pub audioTable : ℕ → List ℕ → ℕ → ℕ → Table
 audioTable k f c room =
     1 if (3 < k)
     else 2 if (length f ≢ 48000 * sequences k)
     else 3 if ((c ≡ 0) ⊎ (8 < c))
     else 4 if (room ≢ positions k)
-    else checked k f (
-    23 if Some (sequences k) (Flagged 5 (sequences k) f)
-    else 24 if SomeInHalf (sequences k) c (AsBreaks k f c)
-    else 25 if AsDiffer (sequences k) f c
-    else none)
+    else checked k f (soundTable k f c)
 
 -- "macroblock read 23"
 abbrev pub macroblockTable : ℕ → List ℕ → ℕ → Table

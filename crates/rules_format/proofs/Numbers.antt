@@ -106,7 +106,7 @@ module _ (y : System) (g : List ℕ) (c t : ℕ) where
     block-byte : (i : ℕ) → i < 80 → getD (soundBlock y g c t) i 0 ≡ getD g (j * 80 + i) 0
     block-byte i h = ap (λ (b : List ℕ). getD b i 0) sound-block ∙ getD-take 80 (drop (j * 80) g) i 0 h ∙ getD-drop (j * 80) g i 0
 
-    word-within : 8 + 2 * (t / (9 * (sequencesOf y / 2))) + 1 < 80
+    pub word-within : 8 + 2 * (t / (9 * (sequencesOf y / 2))) + 1 < 80
     unfolding halfOf
     word-within = omega (arith, word-below (halfOf y) (half-cases y) t (omega (arith, positions-half y, ht)))
 

@@ -1,19 +1,19 @@
 -- Document 01's own numbers and bytes are those of the definitions. Assumes nothing.
 use mathlib.Core.Path.{_≡_, refl, sym, ap, _∙_, subst}
-use mathlib.Core.Bool.{Bool}
+use mathlib.Core.Bool.{Bool, true, false}
 use mathlib.Core.List.{List, [], _∷_}
 use Prim.Native.Nat.{ℕ, _+_, _*_, _/_, _%_, _≤_, _<_}
 use native.Mathlib.Nat.{mod-eq-of-lt}
 use native.Mathlib.Omega.{arith}
-use lib.Dec.{eqb, eqb→eq}
+use lib.Dec.{eqb, ltb, eqb→eq}
 use lib.ListN.{length, getD, take, drop, List·getD-eq-default}
 use lib.Seq.{getD-take, getD-drop, length-take-le}
-use borrow.Author.Tests.{lt-leb, le-leb}
+use borrow.Author.Tests.{lt-leb, le-leb, ne-eqb}
 use Rattle.base.specs.Calls.{firstOf}
 use Rattle.base.specs.Pick.{pick}
 use Rattle.base.specs.Run.{run, tab}
 use Rattle.base.proofs.Below.{below-at}
-use Rattle.base.proofs.Cases.{by-lt}
+use Rattle.base.proofs.Cases.{by-lt, by-bool, clash}
 use Rattle.base.proofs.Parts.{part-part, drop-part}
 use Rattle.paper.specs.declared.System.{System}
 use Rattle.paper.specs.declared.System.the-variants.{I60, I50, P60, P50}
@@ -27,7 +27,7 @@ use Rattle.rules_format.specs.Ids.{channelOf, namedBy, fscOf, fspOf, idB
 use Rattle.rules_format.specs.Blocks.{startOf, blockAt, sequenceAt, blockIn}
 use Rattle.rules_format.specs.Faults.{misnamed, faultOf, faultAt}
 use Rattle.paper.specs.Paper.{sequences, positions, fewer, more, macroblocks, rate, stype, byteAt, bytesAt, figure3, sectionAt, numberAt, channelBy}
-use Rattle.paper.specs.Paper.{channelBits, fault}
+use Rattle.paper.specs.Paper.{channelBits, fault, isOneOf, holdsTime, holdsGroup}
 use Rattle.rules_format.proofs.Systems.{system-above}
 use Rattle.rules_format.proofs.Places.{code-section, entry-past}
 use Rattle.rules_format.proofs.Blocks.{block-in-sequence}
@@ -184,3 +184,26 @@ module _ (y : System) (f : List ℕ) (h q p : ℕ) where
   pub rest-bytes : drop 3 (blockAt y f h q p) ≡ bytesAt (sequencesOf y) f h q p 3 77
   unfolding blockAt
   rest-bytes = drop-part (startOf y h q p) 3 77 f
+
+-- ---- holdsTime, holdsGroup: an SSYB that holds a pack is one of the twelve
+
+one-below : (j : ℕ) → 12 ≤ j → (isOneOf (3 ∷ 5 ∷ 9 ∷ 11 ∷ []) j ≡ false) × (isOneOf (3 ∷ 9 ∷ []) j ≡ false) × (isOneOf (4 ∷ 10 ∷ []) j ≡ false)
+one-below j h =
+    let other : (x : ℕ) → x < 12 → eqb j x ≡ false = λ x l. ne-eqb j x (λ e. omega arith) in (
+      rw (other 3 (omega arith), other 5 (omega arith), other 9 (omega arith), other 11 (omega arith)) refl,
+      rw (other 3 (omega arith), other 9 (omega arith)) refl,
+      rw (other 4 (omega arith), other 10 (omega arith)) refl,
+    )
+
+module _ (n q j : ℕ) where
+  pub time-below : holdsTime n q j ≡ true → j < 12
+  unfolding holdsTime pick
+  time-below e =
+      by-lt j 12 (λ l. l)
+      (λ g. by-bool (ltb q (n / 2)) (λ t. absurd (clash (rw t at e) (one-below j g .0))) (λ t. absurd (clash (rw t at e) (one-below j g .1))))
+
+  pub group-below : holdsGroup n q j ≡ true → j < 12
+  unfolding holdsGroup pick
+  group-below e =
+      by-lt j 12 (λ l. l)
+      (λ g. by-bool (ltb q (n / 2)) (λ t. absurd (clash (rw t at e) (one-below j g .2))) (λ t. absurd (clash (rw t at e) refl)))

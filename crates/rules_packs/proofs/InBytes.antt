@@ -10,10 +10,10 @@ use Rattle.rules_packs.specs.Subcode.{isFirst, kindOf, subcodeBytes, ssy
 use Rattle.rules_packs.specs.Vaux
 use Rattle.rules_packs.specs.Vaux.{vauxBytes, vauxPacks}
 use Rattle.rules_packs.specs.Aaux
-use Rattle.rules_format.proofs.Paper.{columns}
+use Rattle.rules_format.proofs.Paper.{columns, time-below, group-below}
 use Rattle.rules_packs.specs.TimeCode
 use Rattle.rules_packs.specs.InBytes.{InBytes}
-use Rattle.rules_packs.proofs.Written.{header-form, half-first, time-below, is-time, is-group, holds-time, holds-group, group-below, ssyb-form}
+use Rattle.rules_packs.proofs.Written.{header-form, half-first, is-time, is-group, holds-time, holds-group, ssyb-form}
 use Rattle.rules_packs.proofs.Written.{vaux-form, aaux-form}
 use Rattle.rules_packs.proofs.Judged.{vs-same, vs-wrong, vs-right, as-same, as-wrong, as-right, count-by, time-wrong, time-right, taken-wrong}
 use Rattle.rules_packs.proofs.Judged.{taken-right}
@@ -30,8 +30,8 @@ in-bytes k y known = record {
   dsf = λ block. ap (eqb (getD block 3 0 / 128)) (sym (columns k y known .rate-is));
   flags = λ i block. refl;
   first = λ q. sym (half-first k y known q);
-  holds-time = λ q j held. let l = time-below k y known q j held in is-time (kindOf (isFirst y q) j) (sym (holds-time k y known q j l) ∙ held);
-  holds-group = λ q j held. let l = group-below k y known q j held in is-group (kindOf (isFirst y q) j) (sym (holds-group k y known q j l) ∙ held);
+  holds-time = λ q j held. let l = time-below _ q j held in is-time (kindOf (isFirst y q) j) (sym (holds-time k y known q j l) ∙ held);
+  holds-group = λ q j held. let l = group-below _ q j held in is-group (kindOf (isFirst y q) j) (sym (holds-group k y known q j l) ∙ held);
   ssybs = λ time group four four′ q j hj. sym (ssyb-form k y known time group four four′ q j hj);
   subcode = λ said q b. refl;
   ssyb-read = λ block j. refl;

@@ -63,14 +63,6 @@ second-group : (j : ℕ) → j < 12 → false ≡ isGroup (kindOf false j)
 unfolding kindOf agree
 second-group j h = agree-same _ _ (below-at (λ i. agree false (isGroup (kindOf false i))) 12 tt j h)
 
-one-below : (j : ℕ) → 12 ≤ j → (isOneOf (3 ∷ 5 ∷ 9 ∷ 11 ∷ []) j ≡ false) × (isOneOf (3 ∷ 9 ∷ []) j ≡ false) × (isOneOf (4 ∷ 10 ∷ []) j ≡ false)
-one-below j h =
-    let other : (x : ℕ) → x < 12 → eqb j x ≡ false = λ x l. ne-eqb j x (λ e. omega arith) in (
-      rw (other 3 (omega arith), other 5 (omega arith), other 9 (omega arith), other 11 (omega arith)) refl,
-      rw (other 3 (omega arith), other 9 (omega arith)) refl,
-      rw (other 4 (omega arith), other 10 (omega arith)) refl,
-    )
-
 pub is-time : (kind : SubcodePack) → isTime kind ≡ true → kind ≡ TimeCode
 is-time TimeCode e = refl
 is-time BinaryGroup e = let z : _≡_ {A = ℕ} 0 1 = cc in absurd (omega arith)
@@ -95,18 +87,6 @@ module _ (k : ℕ) (y : System) (known : systemOf k ≡ Known y) (q : ℕ) where
     pub holds-group : j < 12 → holdsGroup (sequences k) q j ≡ isGroup (kindOf (isFirst y q) j)
     unfolding holdsGroup pick
     holds-group l = rw half-first (by-bool (isFirst y q) (λ e. rw e (first-group j l)) (λ e. rw e (second-group j l)))
-
-    pub time-below : holdsTime (sequences k) q j ≡ true → j < 12
-    unfolding holdsTime pick
-    time-below e =
-        by-lt j 12 (λ l. l)
-        (λ g. by-bool (ltb q (sequences k / 2)) (λ t. absurd (clash (rw t at e) (one-below j g .0))) (λ t. absurd (clash (rw t at e) (one-below j g .1))))
-
-    pub group-below : holdsGroup (sequences k) q j ≡ true → j < 12
-    unfolding holdsGroup pick
-    group-below e =
-        by-lt j 12 (λ l. l)
-        (λ g. by-bool (ltb q (sequences k / 2)) (λ t. absurd (clash (rw t at e) (one-below j g .2))) (λ t. absurd (clash (rw t at e) refl)))
 
 -- ---- packBytes
 

@@ -16,7 +16,7 @@ use Rattle.base.proofs.Cases.{by-bool, by-eq, clash}
 use Rattle.base.proofs.Picks.{both-held, both-hold}
 use Rattle.paper.specs.declared.System.{System}
 use Rattle.rules_packs.proofs.Judged.{time-wrong, time-right}
-use Rattle.rules_packs.proofs.Written.{time-below, group-below, is-time, is-group, holds-time, holds-group}
+use Rattle.rules_packs.proofs.Written.{is-time, is-group, holds-time, holds-group}
 use Rattle.paper.specs.declared.SystemNumber.the-variants.{Known}
 use Rattle.paper.specs.declared.Pack.{Pack}
 use Rattle.paper.specs.declared.SubcodePack.{SubcodePack}
@@ -32,7 +32,7 @@ use Rattle.promises.specs.Refusals.{Table, _if_, _else_, Some, ssybAt, WrongFir
 use Rattle.paper.specs.Bytes.{compared}
 use Rattle.promises.specs.Refusals.WrongFirst.{wrongTimeHeader, wrongDigit, wrongGroupHeader}
 use Rattle.promises.specs.Refusals.Differs.{otherTime, otherGroup}
-use Rattle.rules_format.proofs.Paper.{columns}
+use Rattle.rules_format.proofs.Paper.{columns, time-below, group-below}
 use Rattle.rules_packs.proofs.Packs.{group-means, group-when}
 use Rattle.rules_packs.proofs.Subcode.{isTime, isGroup}
 use Rattle.rules_reads.proofs.Time.{same-when, subcode-time, subcode-group}
@@ -203,11 +203,11 @@ module _ (k : ℕ) (y : System) (known : systemOf k ≡ Known y) (f : List ℕ) 
 
     agrees : subcodeAgrees y (timeFirst y f) (groupFirst y f) q part ≡ true → Differs k f h q → ⊥
     agrees e (otherTime j i held hi d) =
-        let l = time-below k y known q j held in
+        let l = time-below _ q j held in
         let t = is-time (kindOf (isFirst y q) j) (sym (holds-time k y known q j l) ∙ held) in
         d (time-byte j i hi (ap (settled y) (sym (pack-is h q j l)) ∙ subcode-time y (timeFirst y f) (groupFirst y f) q part e j l t ∙ ap (settled y) time-is))
     agrees e (otherGroup j i held hi d) =
-        let l = group-below k y known q j held in
+        let l = group-below _ q j held in
         let t = is-group (kindOf (isFirst y q) j) (sym (holds-group k y known q j l) ∙ held) in
         d (group-byte j i hi (sym (pack-is h q j l) ∙ subcode-group y (timeFirst y f) (groupFirst y f) q part e j l t ∙ group-is))
 

@@ -1,0 +1,299 @@
+-- What two frames that differ in audio blocks alone have in common, in the refusal tables and in what is read. No contract is asked. Assumes nothing.
+use mathlib.Core.Path.{_≡_, refl, sym, ap, ap₂, _∙_, subst}
+use mathlib.Core.Bool.{Bool, true, false, not}
+use mathlib.Core.List.{List, [], _∷_}
+use mathlib.Core.Logic.{_⊎_, inl, inr, ⊎-elim, _≢_}
+use Prim.Native.Nat.{ℕ, _+_, _-_, _*_, _/_, _%_, _≤_, _<_}
+use native.Mathlib.Omega.{arith}
+use lib.Dec.{T, eqb}
+use lib.IntN.{ℤ, pos}
+use lib.ListN.{length, getD}
+use borrow.Author.Tests.{eqb-true, eqb-false, not-true}
+use Rattle.base.specs.Below.{below}
+use Rattle.base.specs.Pick.{pick}
+use Rattle.base.proofs.Below.{below-means}
+use Rattle.base.proofs.Picks.{pick-either}
+use Rattle.base.proofs.Runs.{run-same, tab-part, tab-same}
+use Rattle.paper.specs.declared.System.{System}
+use Rattle.paper.specs.declared.SystemNumber.the-variants.{Known}
+use Rattle.paper.specs.declared.Survey.{Survey}
+use Rattle.paper.specs.Paper.{sequences, positions, start, byteAt, bytesAt, sectionAt, figure3, fault, streamFault, records, soundChannel, soundFirst, soundIndex}
+use Rattle.paper.specs.Paper.{soundStart, soundWord, sampleBy, asPack, asPlace, countBy, countSaid, modeSaid, vsPack, vauxPlace, vauxByte, ssybPlace, ssybByte}
+use Rattle.paper.specs.Paper.{slotPlace}
+use Rattle.paper.specs.Bytes.{compared}
+use Rattle.promises.specs.Refusals.{Table, _if_, _else_, none, FirstFault, Some, WrongDsf, VsDisagrees, Flagged, vsByte, SomeInHalf, asByte, AsBreaks}
+use Rattle.promises.specs.Refusals.{ssybAt, WrongFirst, Differs, DifferInHalf, AsDiffer, checked, soundTable, audioTable}
+use Rattle.promises.specs.Refusals.{macroblockTable, timeTable}
+use Rattle.promises.specs.Refusals.WrongFirst.{wrongTimeHeader, wrongDigit, wrongGroupHeader}
+use Rattle.promises.specs.Refusals.Differs.{otherTime, otherGroup}
+use Rattle.promises.specs.Demand3.{faultFor, PositionOut, SalvageOut, Listed}
+use Rattle.promises.specs.Unrecorded.{SameButAudio, SameButAaux}
+use Rattle.rules_format.specs.Systems.{systemOf}
+use Rattle.rules_format.proofs.Blocks.{before-channel}
+use Rattle.rules_format.proofs.Paper.{columns, time-below, group-below}
+use Rattle.rules_format.proofs.Numbers.{sound-within, word-within}
+
+-- ---- tables: what one gives, the other gives
+
+-- two rows give the same
+pub record Same (row row′ : Table) : Type 0 where
+  pub to : (r : ℕ) → row r → row′ r
+  pub from : (r : ℕ) → row′ r → row r
+
+-- where one table gives r, so does the other
+pub record Gives (r : ℕ) (table table′ : Table) : Type 0 where
+  pub too : table r → table′ r
+
+pub same-if : {Holds Holds′ : Type 0} (number : ℕ) → (Holds → Holds′) → (Holds′ → Holds) → Same (number if Holds) (number if Holds′)
+same-if number to from = record { to = λ r h. (h .0, to (h .1)); from = λ r h. (h .0, from (h .1)) }
+
+pub else-gives : {row row′ rows rows′ : Table} {r : ℕ} → Same row row′ → Gives r rows rows′ → Gives r (row else rows) (row′ else rows′)
+else-gives {r = r} here rest = record {
+  too = ⊎-elim (λ h. inl (here .to r h)) (λ past. inr ((λ s h. past .0 s (here .from s h)), rest .too (past .1)));
+}
+
+-- where none is refused, no row holds
+pub zero-gives : {Holds Holds′ : Type 0} {rows rows′ : Table} (number : ℕ) → number ≢ 0 → (Holds′ → Holds) → Gives 0 rows rows′
+    → Gives 0 (number if Holds else rows) (number if Holds′ else rows′)
+zero-gives number some from rest = record {
+  too = ⊎-elim (λ h. absurd (some (sym (h .0)))) (λ past. inr ((λ s h. past .0 number (refl, from (h .1))), rest .too (past .1)));
+}
+
+pub none-gives : {r : ℕ} → Gives r none none
+none-gives = record { too = λ e. e }
+
+-- ---- SameButAudio: the bytes that are the same
+
+pub apart-sym : {k : ℕ} {f g : List ℕ} → SameButAudio k f g → SameButAudio k g f
+apart-sym s = record {
+  size = sym (s .size);
+  ids = λ j b hj hb. sym (s .ids j b hj hb);
+  others = λ j b hj hb d. sym (s .others j b hj hb d);
+}
+
+-- places 0 to 5 are of other sections
+low-section : (p : ℕ) → p < 6 → sectionAt p ≢ 3
+unfolding figure3
+low-section p h = eqb-false _ _ (not-true _ (below-means (λ (i : ℕ). not (eqb (sectionAt i) 3)) 6 refl p h))
+
+module _ {k : ℕ} {f g : List ℕ} (s : SameButAudio k f g) where
+  abbrev n : ℕ
+  n = sequences k
+
+  -- a byte of a block of another section
+  pub byte-same : (h q p b : ℕ) → h < 4 → q < n → p < 150 → b < 80 → sectionAt p ≢ 3 → byteAt n g h q p b ≡ byteAt n f h q p b
+  byte-same h q p b hh hq hp hb d =
+      let j : ((n * h + q) * 150 + p) % 150 ≡ p = omega arith in
+      s .others ((n * h + q) * 150 + p) b (omega (arith, before-channel n h hh)) hb (rw j d)
+
+  pub low-same : (h q p b : ℕ) → h < 4 → q < n → p < 6 → b < 80 → byteAt n g h q p b ≡ byteAt n f h q p b
+  low-same h q p b hh hq hp hb = byte-same h q p b hh hq (omega arith) hb (low-section p hp)
+
+  -- a run of them
+  pub bytes-same : length f ≡ 48000 * n → (h q p i m : ℕ) → h < 4 → q < n → p < 150 → i + m ≤ 80 → sectionAt p ≢ 3 → bytesAt n g h q p i m ≡ bytesAt n f h q p i m
+  bytes-same whole h q p i m hh hq hp hi d =
+      let a = start n h q p + i in
+      let fits : a + m ≤ length f = omega (arith, whole, hi, hp, hq, before-channel n h hh) in
+      sym (tab-part 0 g a m (omega (arith, fits, s .size)))
+      ∙ tab-same _ _ m (λ b l.
+      let e : start n h q p + (i + b) ≡ a + b = omega arith in
+      rw e at (byte-same h q p (i + b) hh hq hp (omega (arith, l, hi)) d))
+      ∙ tab-part 0 f a m fits
+
+  -- the fault of a block of the stream
+  pub fault-same : (j i : ℕ) → j < 600 * n → streamFault n g j i ≡ streamFault n f j i
+  fault-same j i hj =
+      let zero : j * 80 + 0 ≡ j * 80 = omega arith in
+      let b0 : getD g (j * 80) 0 ≡ getD f (j * 80) 0 = rw zero at (s .ids j 0 hj (omega arith)) in
+      rw (b0, s .ids j 1 hj (omega arith), s .ids j 2 hj (omega arith)) refl
+
+-- ---- checked: the rows of the frame check
+
+vs-place : (q : ℕ) → vauxPlace (vsPack q) < 6
+unfolding vsPack
+vs-place q = pick-either (λ (j : ℕ). vauxPlace j < 6) _ (omega arith) (omega arith)
+
+vs-byte : (q i : ℕ) → i < 5 → vauxByte (vsPack q) + i < 80
+vs-byte q i h = omega arith
+
+pub some-to : {n : ℕ} {Is Is′ : ℕ → ℕ → Type 0} → ((h q : ℕ) → h < 4 → q < n → Is h q → Is′ h q) → Some n Is → Some n Is′
+some-to to s = record { h = s .h; q = s .q; channel = s .channel; sequence = s .sequence; is = to (s .h) (s .q) (s .channel) (s .sequence) (s .is) }
+
+module _ {k : ℕ} {f g : List ℕ} (s : SameButAudio k f g) where
+  first-to : (r : ℕ) → FirstFault (sequences k) f r → FirstFault (sequences k) g r
+  first-to r a = record {
+    j = a .j;
+    within = a .within;
+    before = λ i l. fault-same s i i (omega (arith, l, a .within)) ∙ a .before i l;
+    is = a .is ∙ sym (fault-same s (a .j) (a .j) (a .within));
+    some = a .some;
+  }
+
+  dsf-to : Some (sequences k) (WrongDsf k f) → Some (sequences k) (WrongDsf k g)
+  dsf-to = some-to (λ h q hh hq d z. d (rw (low-same s h q 0 3 hh hq (omega arith) (omega arith)) at z))
+
+  vs-to : Some (sequences k) (VsDisagrees k f) → Some (sequences k) (VsDisagrees k g)
+  vs-to =
+      some-to (λ h q hh hq v.
+      let byte : (i : ℕ) → i < 5 → vsByte (sequences k) g h q i ≡ vsByte (sequences k) f h q i =
+      λ i hi. low-same s h q (vauxPlace (vsPack q)) (vauxByte (vsPack q) + i) hh hq (vs-place q) (vs-byte q i hi) in
+      record {
+        valid = λ z. v .valid (rw (low-same s h q 0 6 hh hq (omega arith) (omega arith)) at z);
+        wrong = rw (byte 0 (omega arith), byte 3 (omega arith)) (v .wrong);
+      })
+
+  -- 23, by byte 5, 6 or 7 of a header
+  pub flag-to : (i : ℕ) → i < 80 → Some (sequences k) (Flagged i (sequences k) f) → Some (sequences k) (Flagged i (sequences k) g)
+  flag-to i hi = some-to (λ h q hh hq e. ap (λ (x : ℕ). x / 128) (low-same s h q 0 i hh hq (omega arith) hi) ∙ e)
+
+pub checked-gives : {k : ℕ} {f g : List ℕ} {rows rows′ : Table} {r : ℕ} → SameButAudio k f g → Gives r rows rows′ → Gives r (checked k f rows) (checked k g rows′)
+checked-gives s rest =
+    let back = apart-sym s in
+    else-gives (record { to = first-to s; from = first-to back })
+    (else-gives (same-if 21 (dsf-to s) (dsf-to back)) (else-gives (same-if 22 (vs-to s) (vs-to back)) rest))
+
+-- ---- Listed, SalvageOut: the fault list, and the samples where the words are the same too
+
+pub records-same : {k : ℕ} {f g : List ℕ} → SameButAudio k f g → records (sequences k) g 0 (600 * sequences k) ≡ records (sequences k) f 0 (600 * sequences k)
+unfolding records
+records-same {k} s = run-same _ _ (600 * sequences k) (λ j l. rw (fault-same s j (0 + j) l) refl)
+
+pub listed-same : {k : ℕ} {f g list list′ : List ℕ} {r : Survey} → SameButAudio k f g → Listed (sequences k) f 0 (600 * sequences k) list r list′
+    → Listed (sequences k) g 0 (600 * sequences k) list r list′
+listed-same s a = let e = records-same s in record { listed = rw e (a .listed); kept = a .kept; total = rw e (a .total) }
+
+module _ {k : ℕ} {f g : List ℕ} (s : SameButAaux k f g) (y : System) (known : systemOf k ≡ Known y) (c t : ℕ) (c1 : 0 < c) (c8 : c < 9) where
+  index-below : soundIndex (sequences k) c t < 600 * sequences k
+  index-below = let e = columns k y known .sequences-is in rw e (omega (arith, sound-within y f c t c1 c8))
+
+  pub word-same : t < positions k → soundWord (sequences k) g c t ≡ soundWord (sequences k) f c t
+  word-same ht =
+      let n = sequences k in
+      let col = columns k y known in
+      let j = soundIndex n c t in
+      let w = 8 + 2 * (t / (9 * (n / 2))) in
+      let within : w + 1 < 80 = rw (col .sequences-is) (word-within y f c t (omega (arith, ht, col .positions-is))) in
+      let high = s .words j w index-below (omega arith) (omega (arith, within)) in
+      let next : j * 80 + (w + 1) ≡ j * 80 + w + 1 = omega arith in
+      let low : getD g (j * 80 + w + 1) 0 ≡ getD f (j * 80 + w + 1) 0 = rw next at (s .words j (w + 1) index-below (omega arith) within) in
+      rw (high, low) refl
+
+  pub position-same : t < positions k → {x : ℤ} → PositionOut (sequences k) f c t x → PositionOut (sequences k) g c t x
+  position-same ht a =
+      let e : faultFor (sequences k) g c t ≡ faultFor (sequences k) f c t = fault-same (s .blocks) (soundIndex (sequences k) c t) (soundIndex (sequences k) c t) index-below in
+      record { unnamed = λ d. a .unnamed (λ z. d (e ∙ z)); renamed = λ z. a .renamed (sym e ∙ z) ∙ ap sampleBy (sym (word-same ht)) }
+
+pub salvage-out-same : {k : ℕ} {f g : List ℕ} {samples : List ℤ} → SameButAaux k f g → (y : System) → systemOf k ≡ Known y → SalvageOut k f samples → SalvageOut k g samples
+salvage-out-same s y known a = record {
+  size = a .size;
+  position = λ c t c1 c8 ht. position-same s y known c t c1 c8 ht (a .position c t c1 c8 ht);
+}
+
+-- ---- macroblockTable, timeTable
+
+-- video blocks are of another section
+pub slot-section : (v : ℕ) → v < 135 → sectionAt (slotPlace v) ≢ 3
+unfolding figure3
+slot-section v h = eqb-false _ _ (not-true _ (below-means (λ (i : ℕ). not (eqb (sectionAt (slotPlace i)) 3)) 135 refl v h))
+
+pub macroblock-gives : {k : ℕ} {f g : List ℕ} {b r : ℕ} → SameButAudio k f g → Gives r (macroblockTable k f b) (macroblockTable k g b)
+macroblock-gives s =
+    else-gives (same-if 1 (λ h. h) (λ h. h))
+    (else-gives (same-if 2 (λ d z. d (sym (s .size) ∙ z)) (λ d z. d (s .size ∙ z)))
+    (else-gives (same-if 3 (λ h. h) (λ h. h))
+    (checked-gives s (else-gives (same-if 23 (flag-to s 6 (omega arith)) (flag-to (apart-sym s) 6 (omega arith))) none-gives))))
+
+-- a byte of the pack of an SSYB
+module _ {k : ℕ} {f g : List ℕ} (s : SameButAudio k f g) where
+  ssyb-same : (h q j i : ℕ) → h < 4 → q < sequences k → j < 12 → i < 5 → ssybAt (sequences k) g h q j i ≡ ssybAt (sequences k) f h q j i
+  ssyb-same h q j i hh hq hj hi = low-same s h q (ssybPlace j) (ssybByte j + i) hh hq (omega arith) (omega arith)
+
+  module _ (some : 0 < sequences k) where
+    first-same : (j i : ℕ) → j < 12 → i < 5 → ssybAt (sequences k) g 0 0 j i ≡ ssybAt (sequences k) f 0 0 j i
+    first-same j i hj hi = ssyb-same 0 0 j i (omega arith) some hj hi
+
+    wrong-first-to : WrongFirst k f → WrongFirst k g
+    wrong-first-to (wrongTimeHeader d) = wrongTimeHeader (λ z. d (sym (first-same 3 0 (omega arith) (omega arith)) ∙ z))
+    wrong-first-to (wrongDigit w) =
+        wrongDigit
+        (rw (
+          first-same 3 1 (omega arith) (omega arith),
+          first-same 3 2 (omega arith) (omega arith),
+          first-same 3 3 (omega arith) (omega arith),
+          first-same 3 4 (omega arith) (omega arith),
+        ) w)
+    wrong-first-to (wrongGroupHeader d) = wrongGroupHeader (λ z. d (sym (first-same 4 0 (omega arith) (omega arith)) ∙ z))
+
+    differs-to : (h q : ℕ) → h < 4 → q < sequences k → Differs k f h q → Differs k g h q
+    differs-to h q hh hq (otherTime j i held hi d) =
+        otherTime j i held hi (λ z.
+        d (ap (compared k i) (sym (ssyb-same h q j i hh hq (time-below _ q j held) hi)) ∙ z ∙ ap (compared k i) (first-same 3 i (omega arith) hi)))
+    differs-to h q hh hq (otherGroup j i held hi d) =
+        otherGroup j i held hi (λ z. d (sym (ssyb-same h q j i hh hq (group-below _ q j held) hi) ∙ z ∙ first-same 4 i (omega arith) hi))
+
+pub time-gives : {k : ℕ} {f g : List ℕ} {r : ℕ} → 0 < sequences k → SameButAudio k f g → Gives r (timeTable k f) (timeTable k g)
+time-gives some s =
+    let back = apart-sym s in
+    else-gives (same-if 1 (λ h. h) (λ h. h))
+    (else-gives (same-if 2 (λ d z. d (sym (s .size) ∙ z)) (λ d z. d (s .size ∙ z)))
+    (checked-gives s
+    (else-gives (same-if 23 (flag-to s 7 (omega arith)) (flag-to back 7 (omega arith)))
+    (else-gives (same-if 26 (wrong-first-to s some) (wrong-first-to back some))
+    (else-gives (same-if 27 (some-to (differs-to s some)) (some-to (differs-to back some))) none-gives)))))
+
+-- ---- audioTable
+
+-- the rows before an audio channel's own
+pub audio-gives : {k : ℕ} {f g : List ℕ} {c room r : ℕ} → SameButAudio k f g → Gives r (soundTable k f c) (soundTable k g c)
+    → Gives r (audioTable k f c room) (audioTable k g c room)
+audio-gives s rest =
+    else-gives (same-if 1 (λ h. h) (λ h. h))
+    (else-gives (same-if 2 (λ d z. d (sym (s .size) ∙ z)) (λ d z. d (s .size ∙ z)))
+    (else-gives (same-if 3 (λ h. h) (λ h. h)) (else-gives (same-if 4 (λ h. h) (λ h. h)) (checked-gives s rest))))
+
+-- the AS packs of audio channel c are the same in both
+pub record SameAs (k : ℕ) (f g : List ℕ) (c : ℕ) : Type 0 where
+  pub byte : (r i : ℕ) → r < sequences k / 2 → i < 5
+      → asByte (sequences k) g (soundChannel c) (soundFirst (sequences k) c + r) i ≡ asByte (sequences k) f (soundChannel c) (soundFirst (sequences k) c + r) i
+
+same-as-sym : {k : ℕ} {f g : List ℕ} {c : ℕ} → SameAs k f g c → SameAs k g f c
+same-as-sym s = record { byte = λ r i hr hi. sym (s .byte r i hr hi) }
+
+module _ {k : ℕ} {f g : List ℕ} {c : ℕ} (s : SameAs k f g c) where
+  breaks-to : SomeInHalf (sequences k) c (AsBreaks k f c) → SomeInHalf (sequences k) c (AsBreaks k g c)
+  breaks-to b = record {
+    r = b .r;
+    rank = b .rank;
+    is = rw (
+      s .byte (b .r) 0 (b .rank) (omega arith),
+      s .byte (b .r) 1 (b .rank) (omega arith),
+      s .byte (b .r) 2 (b .rank) (omega arith),
+      s .byte (b .r) 3 (b .rank) (omega arith),
+      s .byte (b .r) 4 (b .rank) (omega arith),
+    )
+    (b .is);
+  }
+
+pub differ-to : {n c : ℕ} {said said′ : ℕ → ℕ → ℕ} → ((r : ℕ) → r < n / 2 → said′ (soundChannel c) (soundFirst n c + r) ≡ said (soundChannel c) (soundFirst n c + r))
+    → DifferInHalf n c said → DifferInHalf n c said′
+differ-to same d = record {
+  r = d .r;
+  r′ = d .r′;
+  rank = d .rank;
+  rank′ = d .rank′;
+  differ = λ z. d .differ (sym (same (d .r) (d .rank)) ∙ z ∙ same (d .r′) (d .rank′));
+}
+
+module _ {k : ℕ} {f g : List ℕ} {c : ℕ} (s : SameAs k f g c) where
+  as-differ-to : AsDiffer (sequences k) f c → AsDiffer (sequences k) g c
+  as-differ-to =
+      ⊎-elim
+      (λ d. inl (differ-to (λ r hr. ap (λ (x : ℕ). countBy (x % 64)) (s .byte r 1 hr (omega arith))) d))
+      (λ d. inr (differ-to (λ r hr. ap (λ (x : ℕ). x % 16) (s .byte r 2 hr (omega arith))) d))
+
+-- an audio channel whose AS packs are the same
+pub sound-gives : {k : ℕ} {f g : List ℕ} {c r : ℕ} → SameButAudio k f g → SameAs k f g c → Gives r (soundTable k f c) (soundTable k g c)
+sound-gives s a =
+    let back = same-as-sym a in
+    else-gives (same-if 23 (flag-to s 5 (omega arith)) (flag-to (apart-sym s) 5 (omega arith)))
+    (else-gives (same-if 24 (breaks-to a) (breaks-to back)) (else-gives (same-if 25 (as-differ-to a) (as-differ-to back)) none-gives))
