@@ -256,6 +256,47 @@ unsigned paper_count(const struct paper_map *map, const uint8_t *frame, unsigned
     return count;
 }
 
+/* Table 19, AUDIO MODE: 0 0 0 0 b = Audio CH1, CH3, CH5, CH7; 0 0 0 1 b = Audio CH2, CH4, CH6, CH8; 1 1 1 1 b = Invalid audio
+ * data; Other = Reserved. */
+static enum paper_audio_mode mode_of_code(unsigned code)
+{
+    switch (code) {
+    case 0x0:
+        return PAPER_CH1357;
+    case 0x1:
+        return PAPER_CH2468;
+    case 0xf:
+        return PAPER_INVALID_AUDIO;
+    default:
+        return PAPER_RESERVED_MODE;
+    }
+}
+
+enum paper_audio_mode paper_mode(const struct paper_map *map, const uint8_t *frame, unsigned audio_channel)
+{
+    unsigned packs[PAPER_MIXED_MODES] = {0}, all = 0;
+    for (unsigned i = 0; i < PAPER_DIF_CHANNELS; i++)
+        for (unsigned dseq = 0; dseq < map->system->dif_sequences; dseq++)
+            if (paper_audio_channel(map->system, i, dseq) == audio_channel) {
+                packs[mode_of_code(paper_aaux_pack(map, frame, i, dseq, paper_as_number(dseq))[2] & 0xf)]++;
+                all++;
+            }
+    for (unsigned mode = 0; mode < PAPER_MIXED_MODES; mode++)
+        if (packs[mode] == all)
+            return (enum paper_audio_mode)mode;
+    return PAPER_MIXED_MODES;
+}
+
+unsigned paper_read_audio(const struct paper_map *map, const uint8_t *frame, unsigned audio_channel,
+                          int32_t samples[PAPER_MOST_SAMPLES])
+{
+    unsigned count = paper_count(map, frame, audio_channel);
+    int invalid = paper_mode(map, frame, audio_channel) == PAPER_INVALID_AUDIO;
+    for (unsigned n = 0; n < count; n++)
+        samples[n] = invalid ? PAPER_LOST : paper_sample(map, frame, audio_channel, n);
+    return count;
+}
+
 /* ---- picture */
 
 /* Document 01: ((R h + row) 5 + column) 27 + k with R rows; 5,940 + 27 column + k in the edge unit, row 11. */
@@ -540,13 +581,18 @@ static int is_count_of(const struct paper_system *system, unsigned count)
     return count != 0 && (count == system->counts[0] || count == system->counts[1]);
 }
 
+/* Table 19: the AUDIO MODE that has the audio channel, or the one of invalid audio data. */
+static int is_mode_of(unsigned audio_channel, enum paper_audio_mode mode)
+{
+    return mode == PAPER_INVALID_AUDIO || mode == (audio_channel % 2 == 1 ? PAPER_CH1357 : PAPER_CH2468);
+}
+
 /* Table 19: LF, AF SIZE; the zero above CHN, CHN, AUDIO MODE; 50/60, STYPE; SMP, QU. */
 static int as_agrees(const struct paper_system *system, unsigned audio_channel, const uint8_t as[PAPER_PACK_BYTES])
 {
-    unsigned audio_mode = audio_channel % 2 == 1 ? 0 : 1;
     return as[0] == 0x50 && as[1] >> 7 == 0 && is_count_of(system, count_of_af_size(as[1] & 0x3f)) && as[2] >> 5 == 0 &&
-           (as[2] & 0xf) == audio_mode && (as[3] >> 5 & 1) == system->is_50_hz && (as[3] & 0x1f) == 0x03 &&
-           (as[4] & 0x3f) == 0;
+           is_mode_of(audio_channel, mode_of_code(as[2] & 0xf)) && (as[3] >> 5 & 1) == system->is_50_hz &&
+           (as[3] & 0x1f) == 0x03 && (as[4] & 0x3f) == 0;
 }
 
 static int some_as_disagrees(const struct paper_map *map, const uint8_t *frame, unsigned audio_channel)
@@ -568,7 +614,8 @@ unsigned paper_judge_audio(const struct paper_map *map, const uint8_t *frame, un
         return 23;
     if (some_as_disagrees(map, frame, audio_channel))
         return 24;
-    return paper_count(map, frame, audio_channel) == 0 ? 25 : 0;
+    int differ = paper_count(map, frame, audio_channel) == 0 || paper_mode(map, frame, audio_channel) == PAPER_MIXED_MODES;
+    return differ ? 25 : 0;
 }
 
 unsigned paper_judge_picture(const struct paper_map *map, const uint8_t *frame)

@@ -5,7 +5,8 @@
  * to 8. Taken from the scope paper, document 01, and not from the Recommendation:
  * - what the lost drawings show: figures 2 and 3 (the places of blocks), 4 (of SSYBs), 6 (of VAUX packs), 9 (of AAUX packs);
  * - the numbers of macroblocks;
- * - 32,768 for a lost sample, and the zeros that are written from the count on;
+ * - 32,768 for a lost sample, also for each sample of an audio channel whose AS packs all say invalid audio data, and the
+ *   zeros that are written from the count on;
  * - fault and refusal numbers, what each is given for, their order, and which bits are judged;
  * - bit 6 of the time code's PC1 at 50 Hz, which is not compared and is answered as 1;
  * - FFh as PC4 of VS; VSC and ASC as a header and four FFh. */
@@ -37,6 +38,9 @@ enum paper_section { PAPER_HEADER, PAPER_SUBCODE, PAPER_VAUX, PAPER_AUDIO, PAPER
 
 /* Table 10. */
 enum paper_ssyb_pack { PAPER_RESERVED, PAPER_TC, PAPER_BG };
+
+/* Table 19, AUDIO MODE: what a code says of the audio channel; MIXED is no code's, but of packs that do not say the same. */
+enum paper_audio_mode { PAPER_CH1357, PAPER_CH2468, PAPER_INVALID_AUDIO, PAPER_RESERVED_MODE, PAPER_MIXED_MODES };
 
 struct paper_system {
     const char *name;
@@ -106,8 +110,13 @@ unsigned paper_fault(const struct paper_map *map, const uint8_t *frame, unsigned
 int32_t paper_sample(const struct paper_map *map, const uint8_t *frame, unsigned audio_channel, unsigned n);
 int32_t paper_salvaged_sample(const struct paper_map *map, const uint8_t *frame, unsigned audio_channel, unsigned n);
 
-/* The samples per frame that all AS packs of an audio channel agree on, or 0. */
+/* The samples per frame that all AS packs of an audio channel agree on, or 0; and their audio mode. */
 unsigned paper_count(const struct paper_map *map, const uint8_t *frame, unsigned audio_channel);
+enum paper_audio_mode paper_mode(const struct paper_map *map, const uint8_t *frame, unsigned audio_channel);
+
+/* What the reading of an audio channel gives, where it is not refused: its count, and as many samples. */
+unsigned paper_read_audio(const struct paper_map *map, const uint8_t *frame, unsigned audio_channel,
+                          int32_t samples[PAPER_MOST_SAMPLES]);
 
 /* The number that document 01 gives to a compressed macro block. */
 unsigned paper_macroblock_number(const struct paper_system *system, struct paper_cm cm);

@@ -328,30 +328,38 @@ static uint32_t count_of(const uint8_t *as)
     return size == 20 ? 1600 : size == 22 ? 1602 : 1920;
 }
 
+/* The mode of a channel that was not recorded. */
+enum { UNRECORDED = 0x0F };
+
 /* Bit 6 of PC1, bit 4 of PC2 and bits 7-6 of PC3 and PC4 are not judged. */
 static bool as_ok(const struct system *own, const uint8_t *as, uint32_t mode)
 {
-    uint32_t size = as[1] & 0xBFu;
+    uint32_t size = as[1] & 0xBFu, said = as[2] & 0xEFu;
     bool size_ok = own->rate ? size == 24 : size == 20 || size == 22;
-    return as[0] == 0x50 && size_ok && (as[2] & 0xEFu) == mode && (as[3] & 0x3Fu) == (own->rate << 5 | 3) &&
+    return as[0] == 0x50 && size_ok && (said == mode || said == UNRECORDED) && (as[3] & 0x3Fu) == (own->rate << 5 | 3) &&
            (as[4] & 0x3F) == 0;
 }
 
-/* The number (24, 25 or 0) and the count of an audio channel whose half starts at `bytes`, with sequence `sequence`. */
-static struct dv100_audio judge_audio(const struct system *own, const uint8_t *bytes, uint32_t sequence, uint32_t mode)
+/* What the AS packs of an audio channel say: the number (24, 25 or 0), the count, and whether it was recorded. */
+struct source {
+    uint32_t number, count;
+    bool recorded;
+};
+
+/* Of the channel whose half starts at `bytes`, with sequence `sequence`. */
+static struct source judge_audio(const struct system *own, const uint8_t *bytes, uint32_t sequence, uint32_t mode)
 {
-    uint32_t first = 0;
-    bool differs = false;
+    uint32_t counts = 0, rows_unrecorded = 0;
     for (uint32_t row = 0; row < own->half; row++, sequence++, bytes += SEQUENCE) {
         const uint8_t *as = bytes + (sequence & 1 ? AS_ODD : AS_EVEN);
         if (!as_ok(own, as, mode))
-            return (struct dv100_audio){24, 0};
-        uint32_t count = count_of(as);
-        if (row == 0)
-            first = count;
-        differs |= count != first;
+            return (struct source){24, 0, false};
+        counts |= count_of(as) == own->fewer ? 1 : 2;
+        rows_unrecorded += (as[2] & 0x0F) == UNRECORDED;
     }
-    return differs ? (struct dv100_audio){25, 0} : (struct dv100_audio){0, first};
+    if (counts == 3 || (rows_unrecorded > 0 && rows_unrecorded < own->half))
+        return (struct source){25, 0, false};
+    return (struct source){0, counts == 1 ? own->fewer : own->more, rows_unrecorded == 0};
 }
 
 struct dv100_audio plain_read_audio(uint32_t system, const uint8_t *frame, size_t frame_length, uint32_t audio_channel,
@@ -371,11 +379,16 @@ struct dv100_audio plain_read_audio(uint32_t system, const uint8_t *frame, size_
         return (struct dv100_audio){number, 0};
     uint32_t mode = (audio_channel - 1) & 1;
     const uint8_t *bytes = frame + (size_t)(audio_channel - 1) * own->half * SEQUENCE;
-    struct dv100_audio answer = judge_audio(own, bytes, mode * own->half, mode);
-    if (!answer.number)
+    struct source source = judge_audio(own, bytes, mode * own->half, mode);
+    if (source.number)
+        return (struct dv100_audio){source.number, 0};
+    if (!source.recorded)
+        for (uint32_t sample = 0; sample < source.count; sample++)
+            samples[sample] = DV100_LOST;
+    else
         for (uint32_t row = 0; row < own->half; row++)
-            take_sequence(own, bytes + (size_t)row * SEQUENCE, row, samples, answer.count);
-    return answer;
+            take_sequence(own, bytes + (size_t)row * SEQUENCE, row, samples, source.count);
+    return (struct dv100_audio){0, source.count};
 }
 
 static void salvage_sequence(const struct system *own, const uint8_t *bytes, uint32_t audio_channel, uint32_t row,
