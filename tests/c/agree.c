@@ -706,9 +706,9 @@ static void compare_check(const struct trial *trial, struct tally *tally)
 /* Number and count; the samples to the count, and every entry from there on as it was. */
 static void compare_audio_channel(const struct trial *trial, struct tally *tally, unsigned audio_channel)
 {
-    int32_t samples[PAPER_MOST_SAMPLES];
+    int32_t samples[PAPER_MOST_SAMPLES], decoded[PAPER_MOST_SAMPLES];
     unsigned due = paper_judge_audio(trial->map, trial->frame, audio_channel);
-    unsigned count = due ? 0 : paper_count(trial->map, trial->frame, audio_channel);
+    unsigned count = due ? 0 : paper_read_audio(trial->map, trial->frame, audio_channel, decoded);
     clear_list((uint32_t *)samples, PAPER_MOST_SAMPLES);
     struct dv100_audio said = dv100_read_audio(trial->system, trial->frame, trial->frame_bytes, audio_channel, samples,
                                                trial->map->system->samples);
@@ -716,7 +716,7 @@ static void compare_audio_channel(const struct trial *trial, struct tally *tally
     compare(tally, said.number == due && said.count == count, "audio channel %u: decoder %u count %u, library %u count %u",
             audio_channel, due, count, said.number, said.count);
     for (unsigned n = 0; n < PAPER_MOST_SAMPLES; n++) {
-        int32_t sample = n < count ? paper_sample(trial->map, trial->frame, audio_channel, n) : UNTOUCHED;
+        int32_t sample = n < count ? decoded[n] : UNTOUCHED;
         require(tally, samples[n] == sample, "audio channel %u sample %u: decoder %d, library %d", audio_channel, n, sample,
                 samples[n]);
     }
@@ -1055,11 +1055,13 @@ static void scramble_dif_channel(struct trial *trial, unsigned dif_channel)
 }
 
 /* Each step on the frame as it was written. */
-static const struct {
+struct judged_pattern {
     const char *name;
     unsigned steps;
     void (*damage)(struct trial *, unsigned step);
-} judged_patterns[] = {
+};
+
+static const struct judged_pattern judged_patterns[] = {
     {"a bit of an ID flipped", 24, flip_id_bit},
     {"a bit of a header's bytes 3 to 7 flipped", 40, flip_header_bit},
     {"a bit of a VS flipped", 40, flip_vs_bit},
@@ -1090,15 +1092,15 @@ static void write_undamaged(struct trial *trial)
     memcpy(undamaged, trial->frame, trial->frame_bytes);
 }
 
-static void damage_judged(struct trial *trial)
+static void damage_judged(struct trial *trial, const struct judged_pattern *patterns, unsigned length)
 {
-    for (unsigned at = 0; at < JUDGED_PATTERNS; at++) {
+    for (const struct judged_pattern *pattern = patterns; pattern < patterns + length; pattern++) {
         struct tally tallies[ASKED];
         write_undamaged(trial);
-        start_tallies(trial, judged_patterns[at].name, tallies);
-        for (unsigned step = 0; step < judged_patterns[at].steps; step++) {
+        start_tallies(trial, pattern->name, tallies);
+        for (unsigned step = 0; step < pattern->steps; step++) {
             memcpy(trial->frame, undamaged, trial->frame_bytes);
-            judged_patterns[at].damage(trial, step);
+            pattern->damage(trial, step);
             ask_from(FIRST_JUDGING, trial, tallies);
         }
         print_from(FIRST_JUDGING, tallies);
@@ -1150,12 +1152,271 @@ static void compare_every_time_code_byte(struct trial *trial)
 static void damage_and_compare(struct trial *trial)
 {
     damage_blocks(trial);
-    damage_judged(trial);
+    damage_judged(trial, judged_patterns, JUDGED_PATTERNS);
     damage_in_pairs(trial);
     compare_every_time_code_byte(trial);
 }
 
-/* ---- 3. the known places of document 01 */
+/* ---- 3. audio channels marked 1111, invalid audio data */
+
+static unsigned half_of(const struct trial *trial)
+{
+    return trial->map->system->dif_sequences / 2;
+}
+
+/* An AS of an audio channel, by its number among them. */
+static uint8_t *as_of_channel(struct trial *trial, unsigned audio_channel, unsigned number)
+{
+    struct sequence of = first_of_audio_channel(trial, audio_channel);
+    of.dif_sequence += number;
+    return as_of(trial, of);
+}
+
+static void mark(uint8_t as[PAPER_PACK_BYTES])
+{
+    as[2] |= 0x0f;
+}
+
+static void mark_from(struct trial *trial, unsigned audio_channel, unsigned first)
+{
+    for (unsigned number = first; number < half_of(trial); number++)
+        mark(as_of_channel(trial, audio_channel, number));
+}
+
+static void mark_all(struct trial *trial)
+{
+    for (unsigned audio_channel = 1; audio_channel <= PAPER_AUDIO_CHANNELS; audio_channel++)
+        mark_from(trial, audio_channel, 0);
+}
+
+static void mark_channel(struct trial *trial, unsigned step)
+{
+    mark_from(trial, 1 + step, 0);
+}
+
+/* Every audio channel, and in it every AS. */
+static void mark_all_but_one(struct trial *trial, unsigned step)
+{
+    uint8_t *kept = as_of_channel(trial, 1 + step % PAPER_AUDIO_CHANNELS, step / PAPER_AUDIO_CHANNELS % half_of(trial));
+    uint8_t pc2 = kept[2];
+    mark_from(trial, 1 + step % PAPER_AUDIO_CHANNELS, 0);
+    kept[2] = pc2;
+}
+
+static void mark_one(struct trial *trial, unsigned step)
+{
+    mark(as_of_channel(trial, 1 + step % PAPER_AUDIO_CHANNELS, step / PAPER_AUDIO_CHANNELS % half_of(trial)));
+}
+
+/* As many AS as an audio channel has, from its second on: the last is the next channel's first. */
+static void mark_late(struct trial *trial, unsigned step)
+{
+    mark_from(trial, 1 + step, 1);
+    mark(as_of_channel(trial, 1 + (step + 1) % PAPER_AUDIO_CHANNELS, 0));
+}
+
+/* Every bit, in an odd and in an even audio channel. */
+static void mark_channel_flip_bit(struct trial *trial, unsigned step)
+{
+    unsigned audio_channel = 1 + step % 2 + 2 * below(PAPER_AUDIO_CHANNELS / 2);
+    mark_from(trial, audio_channel, 0);
+    flip(as_of_channel(trial, audio_channel, below(half_of(trial))), step / 2);
+}
+
+/* The first and the last AS of an audio channel, in either order. */
+struct two_as {
+    uint8_t *one, *other;
+};
+
+static struct two_as two_as_of(struct trial *trial, unsigned step)
+{
+    uint8_t *first = as_of_channel(trial, 1 + step % PAPER_AUDIO_CHANNELS, 0);
+    uint8_t *last = as_of_channel(trial, 1 + step % PAPER_AUDIO_CHANNELS, half_of(trial) - 1);
+    return step < PAPER_AUDIO_CHANNELS ? (struct two_as){first, last} : (struct two_as){last, first};
+}
+
+static void mark_one_change_header(struct trial *trial, unsigned step)
+{
+    struct two_as as = two_as_of(trial, step);
+    mark(as.one);
+    as.other[0] ^= 1;
+}
+
+static void mark_one_change_mode(struct trial *trial, unsigned step)
+{
+    struct two_as as = two_as_of(trial, step);
+    mark(as.one);
+    as.other[2] ^= 1;
+}
+
+/* The count that the frame has not, at 60 Hz; at 50 Hz there is none. */
+static void mark_one_change_count(struct trial *trial, unsigned step)
+{
+    struct two_as as = two_as_of(trial, step);
+    mark(as.one);
+    if (!trial->map->system->is_50_hz)
+        flip(as.other, 8 + 6);
+}
+
+static const struct judged_pattern marked_patterns[] = {
+    {"all AS of an audio channel marked", PAPER_AUDIO_CHANNELS, mark_channel},
+    {"all AS of an audio channel but one marked", 6 * PAPER_AUDIO_CHANNELS, mark_all_but_one},
+    {"one AS of an audio channel marked", 6 * PAPER_AUDIO_CHANNELS, mark_one},
+    {"as many AS marked, one sequence late", PAPER_AUDIO_CHANNELS, mark_late},
+    {"all AS of an audio channel marked, a bit of one flipped", 80, mark_channel_flip_bit},
+    {"an AS marked, another with another header", 2 * PAPER_AUDIO_CHANNELS, mark_one_change_header},
+    {"an AS marked, another with the other channels' mode", 2 * PAPER_AUDIO_CHANNELS, mark_one_change_mode},
+    {"an AS marked, another with another count", 2 * PAPER_AUDIO_CHANNELS, mark_one_change_count},
+};
+
+enum { MARKED_PATTERNS = sizeof marked_patterns / sizeof marked_patterns[0] };
+
+/* Every audio channel marked by itself: its count, lost below it, and the entries behind as they were. */
+static void compare_marked_reads(struct trial *trial)
+{
+    struct tally tally = tally_of_trial(trial, "positions", "marked, lost to the count, dv100_read_audio");
+    write_undamaged(trial);
+    for (unsigned audio_channel = 1; audio_channel <= PAPER_AUDIO_CHANNELS; audio_channel++) {
+        int32_t samples[PAPER_MOST_SAMPLES];
+        memcpy(trial->frame, undamaged, trial->frame_bytes);
+        mark_from(trial, audio_channel, 0);
+        clear_list((uint32_t *)samples, PAPER_MOST_SAMPLES);
+        struct dv100_audio said = dv100_read_audio(trial->system, trial->frame, trial->frame_bytes, audio_channel, samples,
+                                                   trial->map->system->samples);
+        require(&tally, said.number == 0 && said.count == trial->count, "audio channel %u: refusal %u, count %u",
+                audio_channel, said.number, said.count);
+        for (unsigned n = 0; n < trial->map->system->samples; n++)
+            compare(&tally, samples[n] == (n < trial->count ? DV100_LOST : UNTOUCHED), "audio channel %u sample %u: %d",
+                    audio_channel, n, samples[n]);
+    }
+    print_tally(&tally);
+}
+
+/* Every value of a byte of AS, the same in all of an audio channel's. */
+static void compare_every_as_byte(struct trial *trial, struct tally *tally, unsigned byte, unsigned values)
+{
+    memcpy(undamaged, trial->frame, trial->frame_bytes);
+    for (unsigned audio_channel = 1; audio_channel <= PAPER_AUDIO_CHANNELS; audio_channel++) {
+        for (unsigned value = 0; value < values; value++) {
+            for (unsigned number = 0; number < half_of(trial); number++)
+                as_of_channel(trial, audio_channel, number)[byte] = (uint8_t)value;
+            compare_audio_channel(trial, tally, audio_channel);
+        }
+        memcpy(trial->frame, undamaged, trial->frame_bytes);
+    }
+}
+
+static void compare_every_mode(struct trial *trial)
+{
+    struct tally tally = tally_of_trial(trial, "frames", "every PC2 in all AS of an audio channel, dv100_read_audio");
+    write_undamaged(trial);
+    compare_every_as_byte(trial, &tally, 2, 256);
+    print_tally(&tally);
+}
+
+static void compare_every_marked_size(struct trial *trial)
+{
+    struct tally tally =
+        tally_of_trial(trial, "frames", "every AF size in all AS of a marked audio channel, dv100_read_audio");
+    write_undamaged(trial);
+    mark_all(trial);
+    compare_every_as_byte(trial, &tally, 1, 64);
+    print_tally(&tally);
+}
+
+/* What salvage and survey give of a frame. */
+struct given {
+    struct dv100_survey salvage, survey;
+    int32_t samples[MOST_SOUND];
+    uint32_t salvage_list[RECORD * MOST_BLOCKS], survey_list[RECORD * MOST_BLOCKS];
+};
+
+static void give(const struct trial *trial, struct given *given)
+{
+    memset(given, 0, sizeof *given);
+    given->salvage = dv100_salvage(trial->system, trial->frame, trial->frame_bytes, given->samples,
+                                   PAPER_AUDIO_CHANNELS * trial->map->system->samples, given->salvage_list,
+                                   RECORD * MOST_BLOCKS);
+    given->survey =
+        dv100_survey(trial->system, trial->frame, trial->frame_bytes, given->survey_list, RECORD * MOST_BLOCKS);
+}
+
+/* The five bytes of every pack of AAUX at random, in whatever block stands there. */
+static void randomize_aaux(struct trial *trial)
+{
+    for (unsigned dif_channel = 0; dif_channel < PAPER_DIF_CHANNELS; dif_channel++)
+        for (unsigned dif_sequence = 0; dif_sequence < trial->map->system->dif_sequences; dif_sequence++)
+            for (unsigned pack = 0; pack < 9; pack++)
+                random_bytes(changing(trial, paper_aaux_pack(trial->map, trial->frame, dif_channel, dif_sequence, pack)),
+                             PAPER_PACK_BYTES);
+}
+
+/* Salvage and survey of a frame, then with every AS marked, then with its AAUX at random. */
+static void compare_unmarked(struct trial *trial, struct tally *tally, const char *pattern)
+{
+    static struct given before, after;
+    give(trial, &before);
+    mark_all(trial);
+    give(trial, &after);
+    compare(tally, memcmp(&before, &after, sizeof before) == 0, "%s, marked", pattern);
+    randomize_aaux(trial);
+    give(trial, &after);
+    compare(tally, memcmp(&before, &after, sizeof before) == 0, "%s, AAUX at random", pattern);
+}
+
+static void compare_all_unmarked(struct trial *trial)
+{
+    struct tally tally = tally_of_trial(trial, "frames", "marked, dv100_salvage and dv100_survey as unmarked");
+    write_undamaged(trial);
+    compare_unmarked(trial, &tally, "undamaged");
+    for (unsigned at = 0; at < sizeof block_patterns / sizeof block_patterns[0]; at++) {
+        memcpy(trial->frame, undamaged, trial->frame_bytes);
+        block_patterns[at].damage(trial);
+        compare_unmarked(trial, &tally, block_patterns[at].name);
+    }
+    print_tally(&tally);
+}
+
+/* Every audio channel has one AS marked, and so 25: each cause of another number beside it. */
+static void mark_with_every_cause(struct trial *trial)
+{
+    struct tally tallies[ASKED];
+    write_undamaged(trial);
+    start_tallies(trial, "an AS of every audio channel marked, every cause of a refusal", tallies);
+    for (unsigned at = 0; at < CAUSES; at++) {
+        memcpy(trial->frame, undamaged, trial->frame_bytes);
+        for (unsigned step = 0; step < PAPER_AUDIO_CHANNELS; step++)
+            mark_one(trial, step + PAPER_AUDIO_CHANNELS * below(half_of(trial)));
+        causes[at].damage(trial, causes[at].step);
+        ask_from(FIRST_JUDGING, trial, tallies);
+    }
+    print_from(FIRST_JUDGING, tallies);
+}
+
+/* All that a frame is asked, every AS marked. */
+static void mark_and_ask_all(struct trial *trial)
+{
+    struct tally tallies[ASKED];
+    write_undamaged(trial);
+    mark_all(trial);
+    start_tallies(trial, "every AS marked", tallies);
+    ask_from(0, trial, tallies);
+    print_from(0, tallies);
+}
+
+static void mark_and_compare(struct trial *trial, unsigned system, unsigned count)
+{
+    set_up(trial, system, count);
+    compare_marked_reads(trial);
+    mark_and_ask_all(trial);
+    damage_judged(trial, marked_patterns, MARKED_PATTERNS);
+    mark_with_every_cause(trial);
+    compare_every_mode(trial);
+    compare_every_marked_size(trial);
+    compare_all_unmarked(trial);
+}
+
+/* ---- 4. the known places of document 01 */
 
 /* A line on what a paper says literally, and whether the decoder and the library say the same. */
 static void print_three_ways(int decoder, int library, const char *literal, ...)
@@ -1342,7 +1603,7 @@ static void compare_known(struct trial *trial)
         compare_known_as(trial);
 }
 
-/* ---- 4. printed rows and rules */
+/* ---- 5. printed rows and rules */
 
 /* The macroblock that the library has in each video DIF block of a system. */
 static int library_macroblock_of[PAPER_SYSTEMS][PAPER_DIF_CHANNELS][PAPER_MOST_SEQUENCES][PAPER_VIDEO_BLOCKS];
@@ -1489,6 +1750,10 @@ int main(void)
         compare_known(&trial);
     }
     compare_printed(&trial);
+    for (unsigned system = 0; system < PAPER_SYSTEMS; system++)
+        for (unsigned which = 0; which < 2; which++)
+            if (maps[system].system->counts[which] > 0)
+                mark_and_compare(&trial, system, maps[system].system->counts[which]);
     print_numbers_met();
     return lines_that_differ > 0;
 }
