@@ -1,6 +1,6 @@
 #!/bin/bash
 # differ.sh [CASES [SEED]]: the library's ten calls beside tests/c/plain.c, an implementation of its own in C, on written,
-# damaged and rubbish frames. A difference fails, and a refusal number of a call that no case met.
+# damaged and rubbish frames. A difference fails, and a refusal number of a call, or a read of a channel marked 1111, that no case met.
 set -u
 . "$(dirname "$0")/c/env.sh"
 work=$(mktemp -d)

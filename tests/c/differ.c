@@ -73,9 +73,10 @@ static void fill_noise(uint8_t *bytes, size_t size)
 /* ---- What was met: calls, refusals, differences */
 
 enum call { READ_ID, SURVEY, SURVEY_SEQUENCE, VIEW, CHECK, READ_AUDIO, MACROBLOCK, READ_TIME, SALVAGE, WRITE, CALLS };
+enum { MARKED_READ = CALLS, ROWS }; /* the table's last row: audio reads again, of channels with an AS of mode 1111 */
 
-static const char *const call_names[CALLS] = {"read_id",    "survey",     "survey_sequence", "view",    "check",
-                                              "read_audio", "macroblock", "read_time",       "salvage", "write"};
+static const char *const call_names[ROWS] = {"read_id",    "survey",    "survey_sequence", "view",  "check",      "read_audio",
+                                             "macroblock", "read_time", "salvage",         "write", "marked read"};
 
 static const uint8_t numbers[] = {0, 1, 2, 3, 4, 11, 12, 13, 14, 15, 21, 22, 23, 24, 25, 26, 27, 31, 32};
 
@@ -83,8 +84,8 @@ static const uint8_t numbers[] = {0, 1, 2, 3, 4, 11, 12, 13, 14, 15, 21, 22, 23,
 #define FAULTS (N(11) | N(12) | N(13) | N(14) | N(15))
 #define CHECKS (N(0) | N(1) | N(2) | FAULTS | N(21) | N(22))
 
-/* The numbers that the paper gives each call. */
-static const uint64_t allowed[CALLS] = {
+/* The numbers that the paper gives each call; of those of a marked read, the ones that the AS packs decide. */
+static const uint64_t allowed[ROWS] = {
     [READ_ID] = N(0) | N(4) | N(11),
     [SURVEY] = N(0) | N(1) | N(2),
     [SURVEY_SEQUENCE] = N(0) | N(1) | N(3) | N(4),
@@ -95,11 +96,12 @@ static const uint64_t allowed[CALLS] = {
     [READ_TIME] = CHECKS | N(23) | N(26) | N(27),
     [SALVAGE] = N(0) | N(1) | N(2) | N(4),
     [WRITE] = N(0) | N(1) | N(2) | N(3) | N(4) | N(31) | N(32),
+    [MARKED_READ] = N(0) | N(24) | N(25),
 };
 
 enum { TOLD = 20 }; /* differences that are printed, of those that are counted */
 
-static uint32_t met[CALLS][33];
+static uint32_t met[ROWS][33];
 static uint64_t calls, differences;
 static uint32_t case_number;
 static char asked[240]; /* the call and its arguments, for the report */
@@ -568,6 +570,41 @@ static void change_all_sizes(struct scene *scene)
     everywhere(scene, change_as, PICK(sizes));
 }
 
+/* The first sequence of the scene's audio channel. */
+static struct scene first_of_channel(const struct scene *scene)
+{
+    struct scene first = *scene;
+    uint32_t half = facts[scene->made].sequences / 2;
+    first.sequence = scene->sequence / half * half;
+    return first;
+}
+
+/* Mode 1111 in one AS, in all of an audio channel, in all but one. */
+static void mark_one(struct scene *scene)
+{
+    as_of(scene)[2] |= 0x0F;
+}
+
+static void mark_channel(struct scene *scene)
+{
+    struct scene here = first_of_channel(scene);
+    for (uint32_t left = facts[scene->made].sequences / 2; left > 0; left--, here.sequence++)
+        mark_one(&here);
+}
+
+static void mark_all_but_one(struct scene *scene)
+{
+    uint8_t held = as_of(scene)[2];
+    mark_channel(scene);
+    as_of(scene)[2] = held;
+}
+
+static void change_mode(struct scene *scene)
+{
+    uint8_t *pc2 = as_of(scene) + 2;
+    *pc2 = (uint8_t)((*pc2 & 0xF0) | below(16));
+}
+
 static uint8_t *pack_of(uint8_t *bytes, uint32_t ssyb)
 {
     return bytes + (1 + ssyb / 6) * BLOCK + 3 + ssyb % 6 * 8 + 3;
@@ -646,7 +683,7 @@ static damage *const to_packs[] = {
     flip_header_bit, flip_rate,     set_flag,       set_flag,       flip_header_bits, flip_vs_bit,   change_vs_byte,
     excuse_vs,       change_all_vs, flip_as_bit,    flip_as_bit,    change_as_byte,   flip_pack_bit, flip_first_pack_bit,
     change_as_size,  change_as_size, change_as_size, change_all_sizes, flip_ssyb_id_bit, flip_arbitrary_bit, change_all_times,
-    change_words,
+    change_words,    mark_one,      mark_channel,   mark_channel,   mark_channel,     mark_all_but_one, change_mode,
 };
 
 static void damage_blocks(struct scene *scene)
@@ -982,6 +1019,32 @@ static uint32_t audio_channel_of(const struct scene *scene)
     return 2 * scene->channel + (in_first_half(scene) ? 1 : 2);
 }
 
+/* How many AS packs of an audio channel of the frame say 1111. */
+static uint32_t marks_in(const struct scene *scene, uint32_t audio_channel)
+{
+    uint32_t half = facts[scene->made].sequences / 2, marks = 0;
+    if (audio_channel < 1 || audio_channel > 8)
+        return 0;
+    struct scene here = {.made = scene->made, .channel = (audio_channel - 1) / 2, .sequence = audio_channel % 2 ? 0 : half};
+    for (uint32_t left = half; left > 0; left--, here.sequence++)
+        marks += (as_of(&here)[2] & 0x0F) == 0x0F;
+    return marks;
+}
+
+/* The library's read of a channel with marks: met, and where it has succeeded every sample is lost. */
+static void marked_answered(struct dv100_audio library)
+{
+    const int32_t *samples = lend(SAMPLES, LIBRARY);
+    if (library.number > 32 || !(allowed[MARKED_READ] >> library.number & 1))
+        return;
+    met[MARKED_READ][library.number]++;
+    for (uint32_t sample = 0; sample < library.count && sample < elements(SAMPLES); sample++)
+        if (samples[sample] != DV100_LOST) {
+            difference("sample %" PRIu32 " of a channel of mode 1111 is %" PRId32, sample, samples[sample]);
+            return;
+        }
+}
+
 static void ask_read_audio(const struct scene *scene, uint32_t audio_channel)
 {
     size_t length = elements(FRAME), samples = elements(SAMPLES);
@@ -993,6 +1056,8 @@ static void ask_read_audio(const struct scene *scene, uint32_t audio_channel)
         plain_read_audio(scene->system, lend(FRAME, PLAIN), length, audio_channel, lend(SAMPLES, PLAIN), samples);
     uint32_t said[] = {library.number, library.count}, wanted[] = {plain.number, plain.count};
     bool success = answered(READ_AUDIO, audio_fields, said, wanted, COUNT(said));
+    if (marks_in(scene, audio_channel) > 0)
+        marked_answered(library);
     changed(SAMPLES, success);
 }
 
@@ -1185,6 +1250,21 @@ static void sweep_bytes(const struct scene *scene, uint8_t *bytes, size_t count,
     }
 }
 
+/* The AS once more, in an audio channel that says 1111. */
+static void sweep_marked(const struct scene *scene)
+{
+    struct scene here = *scene, first = first_of_channel(scene);
+    uint8_t *bytes = sequence_of(&first);
+    size_t size = facts[scene->made].sequences / 2 * SEQUENCE;
+    static uint8_t held[LONGEST];
+    memcpy(held, bytes, size);
+    mark_channel(&here);
+    copy_to_sides(&buffers[FRAME], (size_t)(bytes - buffers[FRAME].before), size);
+    sweep_bytes(scene, as_of(scene), 5, true, ask_own_audio);
+    memcpy(bytes, held, size);
+    copy_to_sides(&buffers[FRAME], (size_t)(bytes - buffers[FRAME].before), size);
+}
+
 /* What a sequence says of its frame: header, VS, AS, time code. */
 static void sweep_sequence(const struct scene *scene)
 {
@@ -1192,6 +1272,7 @@ static void sweep_sequence(const struct scene *scene)
     sweep_bytes(scene, bytes, 8, false, ask_strict_reads);
     sweep_bytes(scene, vs_of(scene), 5, true, ask_check);
     sweep_bytes(scene, as_of(scene), 5, true, ask_own_audio);
+    sweep_marked(scene);
     for (uint32_t ssyb = 0; ssyb < 12; ssyb++)
         sweep_bytes(scene, pack_of(bytes, ssyb) - 3, 8, false, ask_read_time);
     sweep_bytes(scene, pack_of(bytes, 3), 5, true, ask_read_time);
@@ -1248,7 +1329,7 @@ static uint32_t print_table(void)
     for (size_t column = 0; column < COUNT(numbers); column++)
         printf("%7d", numbers[column]);
     printf("\n");
-    for (int call = 0; call < CALLS; call++) {
+    for (int call = 0; call < ROWS; call++) {
         printf("%-16s", call_names[call]);
         for (size_t column = 0; column < COUNT(numbers); column++) {
             uint32_t number = numbers[column];
