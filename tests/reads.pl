@@ -175,23 +175,33 @@ sub as {
     return bytes($view, $h, $q, place_of_a($q % 2 == 0 ? 3 : 0), 3, 5);
 }
 
+# Mode 1111: invalid audio data, a channel that was not recorded
+my $unrecorded = 0b1111;
+
+# The mode of an AS
+sub as_mode {
+    my ($view, $h, $q) = @_;
+    return (as($view, $h, $q))[2] & 0x0F;
+}
+
 # The count of an AS, or 0 where it breaks the rules
 sub as_count {
     my ($view, $c, $h, $q) = @_;
     my ($pc0, $pc1, $pc2, $pc3, $pc4) = as($view, $h, $q);
-    my $mode = $c % 2 == 1 ? 0 : 1;
+    my $own  = $c % 2 == 1 ? 0 : 1;
+    my $mode = $pc2 & 0x0F;
     return 0 if $pc0 != 0x50;
     return 0 if $pc1 & 0x80;                           # LF 0
     return 0 if $pc2 & 0x80;                           # bit 7 zero
     return 0 if $pc2 & 0x60;                           # CHN 00
-    return 0 if ($pc2 & 0x0F) != $mode;
+    return 0 if $mode != $own && $mode != $unrecorded;
     return 0 if ($pc3 >> 5 & 1) != $view->{fifty};
     return 0 if ($pc3 & 0x1F) != 0b00011;              # STYPE
     return 0 if $pc4 & 0x3F;                           # SMP and QU 000
     return $view->{counts}{ $pc1 & 0x3F } // 0;        # only the system's own counts
 }
 
-# The number and the count; 24 an AS of the channel breaks the rules, 25 they differ in count
+# The number and the count; 24 an AS of the channel breaks the rules, 25 they differ in count or in mode
 sub read_audio {
     my ($view, $c, $room) = @_;
     my $number = refusal($view);
@@ -203,8 +213,16 @@ sub read_audio {
     return (23, 0) if invalid($view, 5);
     my @counts = map { as_count($view, $c, @$_) } sequences_of($view, $c);
     return (24, 0) if grep { $_ == 0 } @counts;
+    my @modes = map { as_mode($view, @$_) } sequences_of($view, $c);
     return (25, 0) if grep { $_ != $counts[0] } @counts;
+    return (25, 0) if grep { $_ != $modes[0] } @modes;
     return (0, $counts[0]);
+}
+
+# Every AS of the channel says 1111
+sub is_unrecorded {
+    my ($view, $c) = @_;
+    return !grep { as_mode($view, @$_) != $unrecorded } sequences_of($view, $c);
 }
 
 # DIF channel, sequence, audio block and byte of sample t
@@ -227,9 +245,10 @@ sub sample {
     return $word < 0x8000 ? $word : $word - 65536;
 }
 
-# The samples that an audio read hands out
+# The samples that an audio read hands out; all are lost where the channel was not recorded
 sub samples {
     my ($view, $c, $count) = @_;
+    return ($lost) x $count if is_unrecorded($view, $c);
     return map { sample($view, place_of_sample($view->{n}, $c, $_)) } 0 .. $count - 1;
 }
 
@@ -488,7 +507,7 @@ sub try_audio {
     my ($number, $count) = read_audio($view, $c, $view->{positions});
     my @got   = samples($view, $c, $count);
     my @given = @sound[ ($c - 1) * $count .. $c * $count - 1 ];
-    die "reads.pl: audio channel $c is not the one put in\n" if "@got" ne "@given";
+    die "reads.pl: audio channel $c is not the one put in\n" if "@got" ne "@given" && !is_unrecorded($view, $c);
     out('audio', $c, $number, $count, sums(raised(@got)), $lent - $count, raised(@got[0, 1, -1]));
 }
 
@@ -550,7 +569,7 @@ sub run_line {
     elsif ($letter eq 's') { @last = try_salvage(@f) }
     elsif ($letter eq 'v') { try_survey(@f) }
     elsif ($letter eq 'c') { try_channel(@f, @last) }
-    elsif ($letter eq 'k') { put(0, @f[0 .. 3], chr($f[5]) x $f[4]) }
+    elsif ($letter eq 'k') { put($f[6] // 0, @f[0 .. 3], chr($f[5]) x $f[4]) }
     elsif ($letter eq 'o') { put(0, @f[3 .. 5], 0, substr $frame, start(10, @f[0 .. 2]), 80) }
     elsif ($letter eq 'r') { rubbish() }
     else                   { die "reads.pl: no such line: $letter\n" }

@@ -47,9 +47,9 @@ fn fill_part(frame: &mut [u8], start: usize, n: u32, value: u8)
     }
 }
 
-// Bytes of a block of a frame at 60 Hz become a value: block, byte, how many, value.
+// Bytes of a block become a value: block, byte, how many, value, system.
 pub fn keep(f: Fields, frame: &mut [u8]) {
-    fill_part(frame, offset(0, f.a, f.b, f.c, f.d), f.e, byte(f.f));
+    fill_part(frame, offset(f.g, f.a, f.b, f.c, f.d), f.e, byte(f.f));
 }
 
 fn copy_byte(frame: &mut [u8], from: usize, to: usize) {
