@@ -31,4 +31,4 @@ done
 [ "$lines" -eq "$stored_lines" ] || echo "read frames: wanted are $lines lines, there are $stored_lines"
 
 echo "read frames: $agree lines agree, $differ differ"
-[ "$status" -eq 0 ] && [ "$differ" -eq 0 ] && [ "$lines" -eq "$stored_lines" ] && [ "$agree" -ge 200 ]
+[ "$status" -eq 0 ] && [ "$differ" -eq 0 ] && [ "$lines" -eq "$stored_lines" ] && [ "$agree" -ge 300 ]

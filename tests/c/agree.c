@@ -1,5 +1,6 @@
 /* Lays the library beside an independent decoder (paper.h): frames written, frames damaged, the known places of the scope
- * paper, document 01, and the printed rows of the Recommendation's tables. A line says "agree", or "DIFFERS" and where. */
+ * paper, document 01, the printed rows of the Recommendation's tables, and audio channels marked as invalid. A line says
+ * "agree", or "DIFFERS" and where. */
 #include "dv100.h"
 #include "paper.h"
 #include "printed.h"
@@ -1157,7 +1158,311 @@ static void damage_and_compare(struct trial *trial)
     compare_every_time_code_byte(trial);
 }
 
-/* ---- 3. audio channels marked 1111, invalid audio data */
+/* ---- 3. the known places of document 01 */
+
+/* A line on what a paper says literally, and whether the decoder and the library say the same. */
+static void print_three_ways(int decoder, int library, const char *literal, ...)
+{
+    va_list values;
+    va_start(values, literal);
+    vprintf(literal, values);
+    va_end(values);
+    if (decoder && library) {
+        puts(": paper, decoder, library agree");
+        return;
+    }
+    lines_that_differ++;
+    printf(": DIFFERS%s%s\n", decoder ? "" : " in the decoder", library ? "" : " in the library");
+}
+
+/* What the library reads in the ID of the block that holds a byte of a frame. */
+static struct dv100_id library_id_at(const struct trial *trial, size_t byte)
+{
+    return dv100_read_id(trial->frame + byte - byte % PAPER_BLOCK_BYTES, 3);
+}
+
+static int library_names(struct dv100_id said, struct paper_id due)
+{
+    return said.number == 0 && said.section == due.section && said.channel == due.dif_channel &&
+           said.sequence == due.dseq && said.block == due.dbn;
+}
+
+static int same_id(struct paper_id one, struct paper_id other)
+{
+    return one.section == other.section && one.dif_channel == other.dif_channel && one.dseq == other.dseq &&
+           one.dbn == other.dbn;
+}
+
+/* The bytes of an ID, and the block that they name, at its place in a written frame. */
+static void compare_known_id(const struct trial *trial, struct paper_id named, unsigned place, const uint8_t id[3])
+{
+    uint8_t written[3];
+    paper_write_id(named, written);
+    struct dv100_part block =
+        dv100_view(trial->system, trial->frame, trial->frame_bytes, named.dif_channel, named.dseq, place);
+    print_three_ways(
+        memcmp(written, id, 3) == 0 && same_id(paper_read_id(id), named),
+        library_names(dv100_read_id(id, 3), named) && block.number == 0 && memcmp(trial->frame + block.start, id, 3) == 0,
+        "known %s, ID of DIF channel %u, sequence %u, section %u block %u: %02X %02X %02X", trial->map->system->name,
+        named.dif_channel, named.dseq, named.section, named.dbn, id[0], id[1], id[2]);
+}
+
+static void compare_known_ids(const struct trial *trial)
+{
+    compare_known_id(trial, (struct paper_id){PAPER_HEADER, 0, 0, 0}, 0, (const uint8_t[3]){0x1f, 0x07, 0x00});
+    compare_known_id(trial, (struct paper_id){PAPER_VIDEO, 3, 9, 134}, 149, (const uint8_t[3]){0x9f, 0x9b, 0x86});
+}
+
+static void compare_known_places(const struct trial *trial)
+{
+    static const struct {
+        unsigned place, section, dbn;
+        const char *block;
+    } known[] = {{6, PAPER_AUDIO, 0, "A0"}, {22, PAPER_AUDIO, 1, "A1"}, {149, PAPER_VIDEO, 134, "V134"}};
+    for (unsigned at = 0; at < sizeof known / sizeof known[0]; at++) {
+        struct paper_id due = {known[at].section, 0, 0, known[at].dbn};
+        struct dv100_part block = dv100_view(trial->system, trial->frame, trial->frame_bytes, 0, 0, known[at].place);
+        print_three_ways(same_id(trial->map->figure_3[known[at].place], due),
+                         block.number == 0 && library_names(library_id_at(trial, block.start), due),
+                         "known %s, place %u: %s", trial->map->system->name, known[at].place, known[at].block);
+    }
+}
+
+/* A sample of audio channel 1 and its (sequence, block, byte). */
+struct known_sample {
+    unsigned n, dif_sequence, audio_dif_block, byte;
+};
+
+/* Whether the two bytes that change when sample n is written otherwise are those. */
+static int library_writes_sample_at(struct trial *trial, struct known_sample known)
+{
+    static uint8_t before[MOST_FRAME];
+    size_t changed[2] = {0, 0};
+    unsigned changes = 0;
+    plain_content(trial);
+    write_frame(trial);
+    memcpy(before, trial->frame, trial->frame_bytes);
+    trial->sound[known.n] = 0x1234;
+    write_frame(trial);
+    for (size_t byte = 0; byte < trial->frame_bytes; byte++)
+        if (trial->frame[byte] != before[byte] && changes++ < 2)
+            changed[changes - 1] = byte;
+    return changes == 2 && changed[0] % PAPER_BLOCK_BYTES == known.byte && changed[1] == changed[0] + 1 &&
+           trial->frame[changed[0]] == 0x12 && trial->frame[changed[1]] == 0x34 &&
+           library_names(library_id_at(trial, changed[0]),
+                         (struct paper_id){PAPER_AUDIO, 0, known.dif_sequence, known.audio_dif_block});
+}
+
+/* Whether dv100_salvage answers a word put there at position n of audio channel 1, and zeros at all others. */
+static int library_reads_sample_at(struct trial *trial, struct known_sample known)
+{
+    static int32_t samples[MOST_SOUND];
+    unsigned positions = PAPER_AUDIO_CHANNELS * trial->map->system->samples;
+    struct paper_id block = {PAPER_AUDIO, 0, known.dif_sequence, known.audio_dif_block};
+    plain_content(trial);
+    write_frame(trial);
+    uint8_t *word = trial->frame + paper_block_start(trial->map, block) + known.byte;
+    word[0] = 0x12;
+    word[1] = 0x34;
+    dv100_salvage(trial->system, trial->frame, trial->frame_bytes, samples, positions, NULL, 0);
+    for (unsigned at = 0; at < positions; at++)
+        if (samples[at] != (at == known.n ? 0x1234 : 0))
+            return 0;
+    return 1;
+}
+
+static void compare_known_sample(struct trial *trial, struct known_sample known)
+{
+    struct paper_sample_place at = trial->map->sample[1][known.n];
+    int decoder = at.dif_channel == 0 && at.dif_sequence == known.dif_sequence &&
+                  at.audio_dif_block == known.audio_dif_block && at.byte == known.byte;
+    int library =
+        library_reads_sample_at(trial, known) && (known.n >= trial->count || library_writes_sample_at(trial, known));
+    print_three_ways(decoder, library, "known %s, audio channel 1 sample %u: (%u,%u,%u)", trial->map->system->name, known.n,
+                     known.dif_sequence, known.audio_dif_block, known.byte);
+}
+
+static void compare_known_samples(struct trial *trial)
+{
+    static const struct known_sample at_60_hz[] = {{0, 0, 0, 8},  {2, 4, 6, 8},   {15, 0, 1, 8},
+                                                   {44, 3, 8, 8}, {45, 0, 0, 10}, {1619, 3, 8, 78}};
+    static const struct known_sample at_50_hz[] = {{5, 5, 6, 8}, {1943, 3, 8, 78}};
+    if (trial->map->system->is_50_hz)
+        for (unsigned at = 0; at < 2; at++)
+            compare_known_sample(trial, at_50_hz[at]);
+    else
+        for (unsigned at = 0; at < 6; at++)
+            compare_known_sample(trial, at_60_hz[at]);
+}
+
+static void compare_known_macroblock(const struct trial *trial, struct paper_video_place v, unsigned number)
+{
+    struct dv100_part part = dv100_macroblock(trial->system, trial->frame, trial->frame_bytes, number);
+    print_three_ways(trial->map->macroblock_of[v.h][v.dsn][v.dbn] == (int)number,
+                     part.number == 0 && part.start % PAPER_BLOCK_BYTES == PAPER_PAYLOAD &&
+                         library_names(library_id_at(trial, part.start), (struct paper_id){PAPER_VIDEO, v.h, v.dsn, v.dbn}),
+                     "known %s, DIF channel %u, sequence %u, V%u: macroblock %u", trial->map->system->name, v.h, v.dsn,
+                     v.dbn, number);
+}
+
+static void compare_known_macroblocks(const struct trial *trial)
+{
+    if (trial->map->system->super_block_rows == 11) {
+        compare_known_macroblock(trial, (struct paper_video_place){1, 0, 0}, 2349);
+        compare_known_macroblock(trial, (struct paper_video_place){0, 11, 134}, 6074);
+    } else {
+        compare_known_macroblock(trial, (struct paper_video_place){0, 0, 0}, 324);
+        compare_known_macroblock(trial, (struct paper_video_place){1, 9, 134}, 2429);
+    }
+}
+
+/* The AS packs of audio channel 1 with 1,602 samples, in DIF channel 0, sequences 0 to 4. */
+static void compare_known_as(struct trial *trial)
+{
+    static const uint8_t known[PAPER_PACK_BYTES] = {0x50, 0x56, 0x10, 0xc3, 0xc0};
+    uint8_t due[PAPER_PACK_BYTES];
+    int library = 1;
+    set_up(trial, trial->system, 1602);
+    plain_content(trial);
+    write_frame(trial);
+    paper_as(trial->map->system, 1, 1602, due);
+    for (unsigned dif_sequence = 0; dif_sequence < 5; dif_sequence++)
+        library &= memcmp(paper_aaux_pack(trial->map, trial->frame, 0, dif_sequence, paper_as_number(dif_sequence)), known,
+                          PAPER_PACK_BYTES) == 0;
+    print_three_ways(memcmp(due, known, PAPER_PACK_BYTES) == 0, library,
+                     "known %s, AS of audio channel 1, 1602 samples: 50 56 10 C3 C0", trial->map->system->name);
+}
+
+static void compare_known(struct trial *trial)
+{
+    plain_content(trial);
+    write_frame(trial);
+    compare_known_ids(trial);
+    compare_known_places(trial);
+    compare_known_macroblocks(trial);
+    compare_known_samples(trial);
+    if (!trial->map->system->is_50_hz)
+        compare_known_as(trial);
+}
+
+/* ---- 4. printed rows and rules */
+
+/* The macroblock that the library has in each video DIF block of a system. */
+static int library_macroblock_of[PAPER_SYSTEMS][PAPER_DIF_CHANNELS][PAPER_MOST_SEQUENCES][PAPER_VIDEO_BLOCKS];
+
+static void ask_library_for_macroblocks(struct trial *trial)
+{
+    memset(library_macroblock_of[trial->system], 0xff, sizeof library_macroblock_of[trial->system]);
+    plain_content(trial);
+    write_frame(trial);
+    for (unsigned number = 0; number < trial->map->system->macroblocks; number++) {
+        struct dv100_part part = dv100_macroblock(trial->system, trial->frame, trial->frame_bytes, number);
+        struct dv100_id id = library_id_at(trial, part.start);
+        library_macroblock_of[trial->system][id.channel][id.sequence][id.block] = (int)number;
+    }
+}
+
+/* The number of a row's compressed macro block, or PAPER_NO_MACROBLOCK for a dash. */
+static int printed_number(unsigned system, const struct printed_row *row)
+{
+    if (row->cm.h == PRINTED_NONE)
+        return PAPER_NO_MACROBLOCK;
+    return (int)paper_macroblock_number(maps[system].system, row->cm);
+}
+
+static int decoder_has(unsigned system, const struct printed_row *row)
+{
+    return maps[system].macroblock_of[row->v.i][row->dif_sequence][row->v.dbn] == printed_number(system, row);
+}
+
+static int library_has(unsigned system, const struct printed_row *row)
+{
+    return library_macroblock_of[system][row->v.i][row->dif_sequence][row->v.dbn] == printed_number(system, row);
+}
+
+/* One line for each row, on a system of the table. */
+static void compare_table(const char *name, unsigned system, const struct printed_row *rows, unsigned length)
+{
+    for (const struct printed_row *row = rows; row < rows + length; row++) {
+        int decoder = row->v.i == row->dif_channel && decoder_has(system, row);
+        int library = library_has(system, row);
+        if (row->cm.h == PRINTED_NONE)
+            print_three_ways(decoder, library, "%s, DIF channel %u, sequence %u, V %u,%u: none", name, row->dif_channel,
+                             row->dif_sequence, row->v.dbn, row->v.i);
+        else
+            print_three_ways(decoder, library, "%s, DIF channel %u, sequence %u, V %u,%u: CM %u,%u,%u,%u", name,
+                             row->dif_channel, row->dif_sequence, row->v.dbn, row->v.i, row->cm.h, row->cm.i, row->cm.j,
+                             row->cm.k);
+    }
+}
+
+/* Whether V dbn,h and its four neighbours hold the video segment h, i, k. */
+static int holds_segment(const struct paper_map *map, struct paper_video_place v, unsigned i, unsigned k)
+{
+    for (unsigned m = 0; m < 5; m++) {
+        struct paper_cm cm = paper_segment(map->system, v.h, i, k, m);
+        if (map->macroblock_of[v.h][v.dsn][v.dbn + m] != (int)paper_macroblock_number(map->system, cm))
+            return 0;
+    }
+    return 1;
+}
+
+/* Whether they hold some video segment; of sequence 11 the edge unit's. */
+static int holds_some_segment(const struct paper_map *map, struct paper_video_place v)
+{
+    for (unsigned k = 0; k < 27; k++)
+        for (unsigned row = 0; row < map->system->super_block_rows; row++)
+            if (holds_segment(map, v, v.dsn == 11 ? 11 : row, k))
+                return 1;
+    return 0;
+}
+
+static void compare_segments(unsigned system)
+{
+    const struct paper_map *map = &maps[system];
+    struct tally tally = tally_of("segments", "%s, the decoder alone, § 4.1.6 and § 3.7.2.1", map->system->name);
+    for (unsigned h = 0; h < PAPER_DIF_CHANNELS; h++)
+        for (unsigned dsn = 0; dsn < map->system->dif_sequences; dsn++)
+            for (unsigned dbn = 0; dbn < PAPER_VIDEO_BLOCKS; dbn += 5)
+                if (map->macroblock_of[h][dsn][dbn] != PAPER_NO_MACROBLOCK)
+                    compare(&tally, holds_some_segment(map, (struct paper_video_place){h, dsn, dbn}), "V %u,%u of %u", dbn,
+                            h, dsn);
+    require(&tally, map->misplaced == 0, "%u misplaced", map->misplaced);
+    print_tally(&tally);
+}
+
+/* Every ID that three bytes can be. */
+static void compare_all_ids(void)
+{
+    struct tally tally = tally_of("IDs", "dv100_read_id");
+    for (unsigned word = 0; word < 1u << 24; word++) {
+        uint8_t id[3] = {(uint8_t)(word >> 16), (uint8_t)(word >> 8), (uint8_t)word};
+        struct dv100_id said = dv100_read_id(id, 3);
+        struct paper_id due = paper_read_id(id);
+        int equal = due.section < PAPER_RESERVED_FROM
+                        ? library_names(said, due)
+                        : said.number == 11 && !(said.section | said.channel | said.sequence | said.block);
+        compare(&tally, equal, "%06X", word);
+    }
+    print_tally(&tally);
+}
+
+static void compare_printed(struct trial *trial)
+{
+    for (unsigned system = 0; system < PAPER_SYSTEMS; system++) {
+        set_up(trial, system, maps[system].system->counts[0]);
+        ask_library_for_macroblocks(trial);
+    }
+    compare_table("Table 22 in 1080/60/I", 0, table_22, TABLE_22_ROWS);
+    compare_table("Table 22 in 720/60/P", 2, table_22, TABLE_22_ROWS);
+    compare_table("Table 23", 1, table_23, TABLE_23_ROWS);
+    compare_table("Table 24", 3, table_24, TABLE_24_ROWS);
+    for (unsigned system = 0; system < PAPER_SYSTEMS; system++)
+        compare_segments(system);
+    compare_all_ids();
+}
+
+/* ---- 5. audio channels marked 1111, invalid audio data */
 
 static unsigned half_of(const struct trial *trial)
 {
@@ -1414,310 +1719,6 @@ static void mark_and_compare(struct trial *trial, unsigned system, unsigned coun
     compare_every_mode(trial);
     compare_every_marked_size(trial);
     compare_all_unmarked(trial);
-}
-
-/* ---- 4. the known places of document 01 */
-
-/* A line on what a paper says literally, and whether the decoder and the library say the same. */
-static void print_three_ways(int decoder, int library, const char *literal, ...)
-{
-    va_list values;
-    va_start(values, literal);
-    vprintf(literal, values);
-    va_end(values);
-    if (decoder && library) {
-        puts(": paper, decoder, library agree");
-        return;
-    }
-    lines_that_differ++;
-    printf(": DIFFERS%s%s\n", decoder ? "" : " in the decoder", library ? "" : " in the library");
-}
-
-/* What the library reads in the ID of the block that holds a byte of a frame. */
-static struct dv100_id library_id_at(const struct trial *trial, size_t byte)
-{
-    return dv100_read_id(trial->frame + byte - byte % PAPER_BLOCK_BYTES, 3);
-}
-
-static int library_names(struct dv100_id said, struct paper_id due)
-{
-    return said.number == 0 && said.section == due.section && said.channel == due.dif_channel &&
-           said.sequence == due.dseq && said.block == due.dbn;
-}
-
-static int same_id(struct paper_id one, struct paper_id other)
-{
-    return one.section == other.section && one.dif_channel == other.dif_channel && one.dseq == other.dseq &&
-           one.dbn == other.dbn;
-}
-
-/* The bytes of an ID, and the block that they name, at its place in a written frame. */
-static void compare_known_id(const struct trial *trial, struct paper_id named, unsigned place, const uint8_t id[3])
-{
-    uint8_t written[3];
-    paper_write_id(named, written);
-    struct dv100_part block =
-        dv100_view(trial->system, trial->frame, trial->frame_bytes, named.dif_channel, named.dseq, place);
-    print_three_ways(
-        memcmp(written, id, 3) == 0 && same_id(paper_read_id(id), named),
-        library_names(dv100_read_id(id, 3), named) && block.number == 0 && memcmp(trial->frame + block.start, id, 3) == 0,
-        "known %s, ID of DIF channel %u, sequence %u, section %u block %u: %02X %02X %02X", trial->map->system->name,
-        named.dif_channel, named.dseq, named.section, named.dbn, id[0], id[1], id[2]);
-}
-
-static void compare_known_ids(const struct trial *trial)
-{
-    compare_known_id(trial, (struct paper_id){PAPER_HEADER, 0, 0, 0}, 0, (const uint8_t[3]){0x1f, 0x07, 0x00});
-    compare_known_id(trial, (struct paper_id){PAPER_VIDEO, 3, 9, 134}, 149, (const uint8_t[3]){0x9f, 0x9b, 0x86});
-}
-
-static void compare_known_places(const struct trial *trial)
-{
-    static const struct {
-        unsigned place, section, dbn;
-        const char *block;
-    } known[] = {{6, PAPER_AUDIO, 0, "A0"}, {22, PAPER_AUDIO, 1, "A1"}, {149, PAPER_VIDEO, 134, "V134"}};
-    for (unsigned at = 0; at < sizeof known / sizeof known[0]; at++) {
-        struct paper_id due = {known[at].section, 0, 0, known[at].dbn};
-        struct dv100_part block = dv100_view(trial->system, trial->frame, trial->frame_bytes, 0, 0, known[at].place);
-        print_three_ways(same_id(trial->map->figure_3[known[at].place], due),
-                         block.number == 0 && library_names(library_id_at(trial, block.start), due),
-                         "known %s, place %u: %s", trial->map->system->name, known[at].place, known[at].block);
-    }
-}
-
-/* A sample of audio channel 1 and its (sequence, block, byte). */
-struct known_sample {
-    unsigned n, dif_sequence, audio_dif_block, byte;
-};
-
-/* Whether the two bytes that change when sample n is written otherwise are those. */
-static int library_writes_sample_at(struct trial *trial, struct known_sample known)
-{
-    static uint8_t before[MOST_FRAME];
-    size_t changed[2] = {0, 0};
-    unsigned changes = 0;
-    plain_content(trial);
-    write_frame(trial);
-    memcpy(before, trial->frame, trial->frame_bytes);
-    trial->sound[known.n] = 0x1234;
-    write_frame(trial);
-    for (size_t byte = 0; byte < trial->frame_bytes; byte++)
-        if (trial->frame[byte] != before[byte] && changes++ < 2)
-            changed[changes - 1] = byte;
-    return changes == 2 && changed[0] % PAPER_BLOCK_BYTES == known.byte && changed[1] == changed[0] + 1 &&
-           trial->frame[changed[0]] == 0x12 && trial->frame[changed[1]] == 0x34 &&
-           library_names(library_id_at(trial, changed[0]),
-                         (struct paper_id){PAPER_AUDIO, 0, known.dif_sequence, known.audio_dif_block});
-}
-
-/* Whether dv100_salvage answers a word put there at position n of audio channel 1, and zeros at all others. */
-static int library_reads_sample_at(struct trial *trial, struct known_sample known)
-{
-    static int32_t samples[MOST_SOUND];
-    unsigned positions = PAPER_AUDIO_CHANNELS * trial->map->system->samples;
-    struct paper_id block = {PAPER_AUDIO, 0, known.dif_sequence, known.audio_dif_block};
-    plain_content(trial);
-    write_frame(trial);
-    uint8_t *word = trial->frame + paper_block_start(trial->map, block) + known.byte;
-    word[0] = 0x12;
-    word[1] = 0x34;
-    dv100_salvage(trial->system, trial->frame, trial->frame_bytes, samples, positions, NULL, 0);
-    for (unsigned at = 0; at < positions; at++)
-        if (samples[at] != (at == known.n ? 0x1234 : 0))
-            return 0;
-    return 1;
-}
-
-static void compare_known_sample(struct trial *trial, struct known_sample known)
-{
-    struct paper_sample_place at = trial->map->sample[1][known.n];
-    int decoder = at.dif_channel == 0 && at.dif_sequence == known.dif_sequence &&
-                  at.audio_dif_block == known.audio_dif_block && at.byte == known.byte;
-    int library =
-        library_reads_sample_at(trial, known) && (known.n >= trial->count || library_writes_sample_at(trial, known));
-    print_three_ways(decoder, library, "known %s, audio channel 1 sample %u: (%u,%u,%u)", trial->map->system->name, known.n,
-                     known.dif_sequence, known.audio_dif_block, known.byte);
-}
-
-static void compare_known_samples(struct trial *trial)
-{
-    static const struct known_sample at_60_hz[] = {{0, 0, 0, 8},  {2, 4, 6, 8},   {15, 0, 1, 8},
-                                                   {44, 3, 8, 8}, {45, 0, 0, 10}, {1619, 3, 8, 78}};
-    static const struct known_sample at_50_hz[] = {{5, 5, 6, 8}, {1943, 3, 8, 78}};
-    if (trial->map->system->is_50_hz)
-        for (unsigned at = 0; at < 2; at++)
-            compare_known_sample(trial, at_50_hz[at]);
-    else
-        for (unsigned at = 0; at < 6; at++)
-            compare_known_sample(trial, at_60_hz[at]);
-}
-
-static void compare_known_macroblock(const struct trial *trial, struct paper_video_place v, unsigned number)
-{
-    struct dv100_part part = dv100_macroblock(trial->system, trial->frame, trial->frame_bytes, number);
-    print_three_ways(trial->map->macroblock_of[v.h][v.dsn][v.dbn] == (int)number,
-                     part.number == 0 && part.start % PAPER_BLOCK_BYTES == PAPER_PAYLOAD &&
-                         library_names(library_id_at(trial, part.start), (struct paper_id){PAPER_VIDEO, v.h, v.dsn, v.dbn}),
-                     "known %s, DIF channel %u, sequence %u, V%u: macroblock %u", trial->map->system->name, v.h, v.dsn,
-                     v.dbn, number);
-}
-
-static void compare_known_macroblocks(const struct trial *trial)
-{
-    if (trial->map->system->super_block_rows == 11) {
-        compare_known_macroblock(trial, (struct paper_video_place){1, 0, 0}, 2349);
-        compare_known_macroblock(trial, (struct paper_video_place){0, 11, 134}, 6074);
-    } else {
-        compare_known_macroblock(trial, (struct paper_video_place){0, 0, 0}, 324);
-        compare_known_macroblock(trial, (struct paper_video_place){1, 9, 134}, 2429);
-    }
-}
-
-/* The AS packs of audio channel 1 with 1,602 samples, in DIF channel 0, sequences 0 to 4. */
-static void compare_known_as(struct trial *trial)
-{
-    static const uint8_t known[PAPER_PACK_BYTES] = {0x50, 0x56, 0x10, 0xc3, 0xc0};
-    uint8_t due[PAPER_PACK_BYTES];
-    int library = 1;
-    set_up(trial, trial->system, 1602);
-    plain_content(trial);
-    write_frame(trial);
-    paper_as(trial->map->system, 1, 1602, due);
-    for (unsigned dif_sequence = 0; dif_sequence < 5; dif_sequence++)
-        library &= memcmp(paper_aaux_pack(trial->map, trial->frame, 0, dif_sequence, paper_as_number(dif_sequence)), known,
-                          PAPER_PACK_BYTES) == 0;
-    print_three_ways(memcmp(due, known, PAPER_PACK_BYTES) == 0, library,
-                     "known %s, AS of audio channel 1, 1602 samples: 50 56 10 C3 C0", trial->map->system->name);
-}
-
-static void compare_known(struct trial *trial)
-{
-    plain_content(trial);
-    write_frame(trial);
-    compare_known_ids(trial);
-    compare_known_places(trial);
-    compare_known_macroblocks(trial);
-    compare_known_samples(trial);
-    if (!trial->map->system->is_50_hz)
-        compare_known_as(trial);
-}
-
-/* ---- 5. printed rows and rules */
-
-/* The macroblock that the library has in each video DIF block of a system. */
-static int library_macroblock_of[PAPER_SYSTEMS][PAPER_DIF_CHANNELS][PAPER_MOST_SEQUENCES][PAPER_VIDEO_BLOCKS];
-
-static void ask_library_for_macroblocks(struct trial *trial)
-{
-    memset(library_macroblock_of[trial->system], 0xff, sizeof library_macroblock_of[trial->system]);
-    plain_content(trial);
-    write_frame(trial);
-    for (unsigned number = 0; number < trial->map->system->macroblocks; number++) {
-        struct dv100_part part = dv100_macroblock(trial->system, trial->frame, trial->frame_bytes, number);
-        struct dv100_id id = library_id_at(trial, part.start);
-        library_macroblock_of[trial->system][id.channel][id.sequence][id.block] = (int)number;
-    }
-}
-
-/* The number of a row's compressed macro block, or PAPER_NO_MACROBLOCK for a dash. */
-static int printed_number(unsigned system, const struct printed_row *row)
-{
-    if (row->cm.h == PRINTED_NONE)
-        return PAPER_NO_MACROBLOCK;
-    return (int)paper_macroblock_number(maps[system].system, row->cm);
-}
-
-static int decoder_has(unsigned system, const struct printed_row *row)
-{
-    return maps[system].macroblock_of[row->v.i][row->dif_sequence][row->v.dbn] == printed_number(system, row);
-}
-
-static int library_has(unsigned system, const struct printed_row *row)
-{
-    return library_macroblock_of[system][row->v.i][row->dif_sequence][row->v.dbn] == printed_number(system, row);
-}
-
-/* One line for each row, on a system of the table. */
-static void compare_table(const char *name, unsigned system, const struct printed_row *rows, unsigned length)
-{
-    for (const struct printed_row *row = rows; row < rows + length; row++) {
-        int decoder = row->v.i == row->dif_channel && decoder_has(system, row);
-        int library = library_has(system, row);
-        if (row->cm.h == PRINTED_NONE)
-            print_three_ways(decoder, library, "%s, DIF channel %u, sequence %u, V %u,%u: none", name, row->dif_channel,
-                             row->dif_sequence, row->v.dbn, row->v.i);
-        else
-            print_three_ways(decoder, library, "%s, DIF channel %u, sequence %u, V %u,%u: CM %u,%u,%u,%u", name,
-                             row->dif_channel, row->dif_sequence, row->v.dbn, row->v.i, row->cm.h, row->cm.i, row->cm.j,
-                             row->cm.k);
-    }
-}
-
-/* Whether V dbn,h and its four neighbours hold the video segment h, i, k. */
-static int holds_segment(const struct paper_map *map, struct paper_video_place v, unsigned i, unsigned k)
-{
-    for (unsigned m = 0; m < 5; m++) {
-        struct paper_cm cm = paper_segment(map->system, v.h, i, k, m);
-        if (map->macroblock_of[v.h][v.dsn][v.dbn + m] != (int)paper_macroblock_number(map->system, cm))
-            return 0;
-    }
-    return 1;
-}
-
-/* Whether they hold some video segment; of sequence 11 the edge unit's. */
-static int holds_some_segment(const struct paper_map *map, struct paper_video_place v)
-{
-    for (unsigned k = 0; k < 27; k++)
-        for (unsigned row = 0; row < map->system->super_block_rows; row++)
-            if (holds_segment(map, v, v.dsn == 11 ? 11 : row, k))
-                return 1;
-    return 0;
-}
-
-static void compare_segments(unsigned system)
-{
-    const struct paper_map *map = &maps[system];
-    struct tally tally = tally_of("segments", "%s, the decoder alone, § 4.1.6 and § 3.7.2.1", map->system->name);
-    for (unsigned h = 0; h < PAPER_DIF_CHANNELS; h++)
-        for (unsigned dsn = 0; dsn < map->system->dif_sequences; dsn++)
-            for (unsigned dbn = 0; dbn < PAPER_VIDEO_BLOCKS; dbn += 5)
-                if (map->macroblock_of[h][dsn][dbn] != PAPER_NO_MACROBLOCK)
-                    compare(&tally, holds_some_segment(map, (struct paper_video_place){h, dsn, dbn}), "V %u,%u of %u", dbn,
-                            h, dsn);
-    require(&tally, map->misplaced == 0, "%u misplaced", map->misplaced);
-    print_tally(&tally);
-}
-
-/* Every ID that three bytes can be. */
-static void compare_all_ids(void)
-{
-    struct tally tally = tally_of("IDs", "dv100_read_id");
-    for (unsigned word = 0; word < 1u << 24; word++) {
-        uint8_t id[3] = {(uint8_t)(word >> 16), (uint8_t)(word >> 8), (uint8_t)word};
-        struct dv100_id said = dv100_read_id(id, 3);
-        struct paper_id due = paper_read_id(id);
-        int equal = due.section < PAPER_RESERVED_FROM
-                        ? library_names(said, due)
-                        : said.number == 11 && !(said.section | said.channel | said.sequence | said.block);
-        compare(&tally, equal, "%06X", word);
-    }
-    print_tally(&tally);
-}
-
-static void compare_printed(struct trial *trial)
-{
-    for (unsigned system = 0; system < PAPER_SYSTEMS; system++) {
-        set_up(trial, system, maps[system].system->counts[0]);
-        ask_library_for_macroblocks(trial);
-    }
-    compare_table("Table 22 in 1080/60/I", 0, table_22, TABLE_22_ROWS);
-    compare_table("Table 22 in 720/60/P", 2, table_22, TABLE_22_ROWS);
-    compare_table("Table 23", 1, table_23, TABLE_23_ROWS);
-    compare_table("Table 24", 3, table_24, TABLE_24_ROWS);
-    for (unsigned system = 0; system < PAPER_SYSTEMS; system++)
-        compare_segments(system);
-    compare_all_ids();
 }
 
 /* ---- */

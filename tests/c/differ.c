@@ -1019,11 +1019,11 @@ static uint32_t audio_channel_of(const struct scene *scene)
     return 2 * scene->channel + (in_first_half(scene) ? 1 : 2);
 }
 
-/* How many AS packs of an audio channel of the frame say 1111. */
+/* How many AS packs of an audio channel say 1111, where a whole frame is lent. */
 static uint32_t marks_in(const struct scene *scene, uint32_t audio_channel)
 {
     uint32_t half = facts[scene->made].sequences / 2, marks = 0;
-    if (audio_channel < 1 || audio_channel > 8)
+    if (audio_channel < 1 || audio_channel > 8 || elements(FRAME) != frame_size(scene->made))
         return 0;
     struct scene here = {.made = scene->made, .channel = (audio_channel - 1) / 2, .sequence = audio_channel % 2 ? 0 : half};
     for (uint32_t left = half; left > 0; left--, here.sequence++)
