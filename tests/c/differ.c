@@ -579,17 +579,29 @@ static struct scene first_of_channel(const struct scene *scene)
     return first;
 }
 
+static void set_mode(const struct scene *scene, uint32_t mode)
+{
+    uint8_t *pc2 = as_of(scene) + 2;
+    *pc2 = (uint8_t)((*pc2 & 0xF0) | mode);
+}
+
+/* The same mode in all AS of the audio channel. */
+static void set_modes(const struct scene *scene, uint32_t mode)
+{
+    struct scene here = first_of_channel(scene);
+    for (uint32_t left = facts[scene->made].sequences / 2; left > 0; left--, here.sequence++)
+        set_mode(&here, mode);
+}
+
 /* Mode 1111 in one AS, in all of an audio channel, in all but one. */
 static void mark_one(struct scene *scene)
 {
-    as_of(scene)[2] |= 0x0F;
+    set_mode(scene, 0x0F);
 }
 
 static void mark_channel(struct scene *scene)
 {
-    struct scene here = first_of_channel(scene);
-    for (uint32_t left = facts[scene->made].sequences / 2; left > 0; left--, here.sequence++)
-        mark_one(&here);
+    set_modes(scene, 0x0F);
 }
 
 static void mark_all_but_one(struct scene *scene)
@@ -601,8 +613,13 @@ static void mark_all_but_one(struct scene *scene)
 
 static void change_mode(struct scene *scene)
 {
-    uint8_t *pc2 = as_of(scene) + 2;
-    *pc2 = (uint8_t)((*pc2 & 0xF0) | below(16));
+    set_mode(scene, below(16));
+}
+
+/* Often the other audio channels' own. */
+static void change_modes(struct scene *scene)
+{
+    set_modes(scene, percent(50) ? below(2) : below(16));
 }
 
 static uint8_t *pack_of(uint8_t *bytes, uint32_t ssyb)
@@ -684,6 +701,7 @@ static damage *const to_packs[] = {
     excuse_vs,       change_all_vs, flip_as_bit,    flip_as_bit,    change_as_byte,   flip_pack_bit, flip_first_pack_bit,
     change_as_size,  change_as_size, change_as_size, change_all_sizes, flip_ssyb_id_bit, flip_arbitrary_bit, change_all_times,
     change_words,    mark_one,      mark_channel,   mark_channel,   mark_channel,     mark_all_but_one, change_mode,
+    change_modes,
 };
 
 static void damage_blocks(struct scene *scene)
@@ -1253,12 +1271,12 @@ static void sweep_bytes(const struct scene *scene, uint8_t *bytes, size_t count,
 /* The AS once more, in an audio channel that says 1111. */
 static void sweep_marked(const struct scene *scene)
 {
-    struct scene here = *scene, first = first_of_channel(scene);
+    struct scene first = first_of_channel(scene);
     uint8_t *bytes = sequence_of(&first);
     size_t size = facts[scene->made].sequences / 2 * SEQUENCE;
     static uint8_t held[LONGEST];
     memcpy(held, bytes, size);
-    mark_channel(&here);
+    set_modes(scene, 0x0F);
     copy_to_sides(&buffers[FRAME], (size_t)(bytes - buffers[FRAME].before), size);
     sweep_bytes(scene, as_of(scene), 5, true, ask_own_audio);
     memcpy(bytes, held, size);
