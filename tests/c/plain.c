@@ -349,17 +349,20 @@ struct source {
 /* Of the channel whose half starts at `bytes`, with sequence `sequence`. */
 static struct source judge_audio(const struct system *own, const uint8_t *bytes, uint32_t sequence, uint32_t mode)
 {
-    uint32_t counts = 0, rows_unrecorded = 0;
+    uint32_t first = 0, unrecorded = 0;
+    bool differs = false;
     for (uint32_t row = 0; row < own->half; row++, sequence++, bytes += SEQUENCE) {
         const uint8_t *as = bytes + (sequence & 1 ? AS_ODD : AS_EVEN);
         if (!as_ok(own, as, mode))
             return (struct source){24, 0, false};
-        counts |= count_of(as) == own->fewer ? 1 : 2;
-        rows_unrecorded += (as[2] & 0x0F) == UNRECORDED;
+        uint32_t count = count_of(as);
+        if (row == 0)
+            first = count;
+        differs |= count != first;
+        unrecorded += (as[2] & 0x0F) == UNRECORDED;
     }
-    if (counts == 3 || (rows_unrecorded > 0 && rows_unrecorded < own->half))
-        return (struct source){25, 0, false};
-    return (struct source){0, counts == 1 ? own->fewer : own->more, rows_unrecorded == 0};
+    differs |= unrecorded > 0 && unrecorded < own->half;
+    return differs ? (struct source){25, 0, false} : (struct source){0, first, unrecorded == 0};
 }
 
 struct dv100_audio plain_read_audio(uint32_t system, const uint8_t *frame, size_t frame_length, uint32_t audio_channel,
