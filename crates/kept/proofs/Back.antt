@@ -22,7 +22,7 @@ use Rattle.rules_format.specs.Blocks.{sequenceAt, blockIn}
 use Rattle.rules_packs.specs.TimeCode.{timePack, groupPack, timeTaken}
 use Rattle.rules_packs.specs.Subcode.{isFirst, kindOf, subcodePack, ssybPack}
 use Rattle.rules_packs.specs.Vaux.{vsAt, vauxBlock, vauxIn, vsOk}
-use Rattle.rules_packs.specs.Aaux.{asAt, modeOf, asPack, asOk, aauxIn, countIn, modeIn}
+use Rattle.rules_packs.specs.Aaux.{asAt, asPack, asOk, aauxIn, countIn, modeIn}
 use Rattle.rules_packs.specs.Header.{dsfOk, flagged}
 use Rattle.rules_format.specs.Samples.{sampleOf}
 use Rattle.rules_format.specs.Sound.{difOf}

@@ -30,7 +30,7 @@ views-decided {k} {f} {h} {q} {p} numbered viewed lies z m =
     views-one z (view-lies-number k f h q p lies ∙ sym (numbered .answer)) m (view-out numbered viewed lies)
 
 -- a macroblock that is read is one of the system's
-read-below : (k : ℕ) (f : List ℕ) (b : ℕ) → macroblockNumber k f b ≡ 0 → b < macroblocks k
+pub read-below : (k : ℕ) (f : List ℕ) (b : ℕ) → macroblockNumber k f b ≡ 0 → b < macroblocks k
 read-below k f b z =
     by-system k
     (λ none. absurd (omega (arith, z, macroblock-1 k f b none)))

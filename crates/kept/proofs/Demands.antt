@@ -3,10 +3,11 @@
 use mathlib.Core.Path.{_≡_, refl, sym, _∙_}
 use mathlib.Core.Bool.{true, false}
 use mathlib.Core.List.{List, [], _∷_, _++_}
-use Prim.Native.Nat.{ℕ, _+_, _*_, _<_}
+use mathlib.Core.Logic.{_≢_}
+use Prim.Native.Nat.{ℕ, _+_, _*_, _/_, _<_}
 use lib.Dec.{T}
 use lib.IntN.{ℤ, pos}
-use lib.ListN.{length}
+use lib.ListN.{length, getD}
 use Rattle.base.specs.Pick.{pick}
 use Rattle.base.specs.Run.{run}
 use Rattle.base.specs.Calls.{Refusal, firstOf, _when_, ExactlyOne}
@@ -17,27 +18,36 @@ use Rattle.paper.specs.declared.IdAnswer.{IdAnswer}
 use Rattle.paper.specs.declared.IdValues.{IdValues}
 use Rattle.paper.specs.declared.Part.{Part}
 use Rattle.paper.specs.declared.Survey.{Survey}
+use Rattle.paper.specs.declared.AudioAnswer.{AudioAnswer}
+use Rattle.paper.specs.declared.TimeAnswer.{TimeAnswer}
 use Rattle.rules_surveys.specs.ReadId.{IdRead, IdSaid}
 use Rattle.rules_surveys.specs.Survey.{FrameSurveyed, SequenceSurveyed}
 use Rattle.rules_surveys.specs.View.{ViewNumbered, Viewed, ViewLies}
-use Rattle.rules_reads.specs.Macroblock.{MacroblockLies}
+use Rattle.rules_reads.specs.Check.{Checked}
+use Rattle.rules_reads.specs.Audio.{AudioRead}
+use Rattle.rules_reads.specs.Macroblock.{MacroblockNumbered, MacroblockRead, MacroblockLies}
+use Rattle.rules_reads.specs.Time.{TimeRead}
 use Rattle.rules_surveys.specs.Salvage.{Salvaged}
 use Rattle.promises.specs.Contents.{Contents}
 use Rattle.rules_writes.specs.Write.{Wrote}
 use Rattle.rules_picture.specs.Rows.{rowsAgree, printedRows}
 use Rattle.rules_format.specs.Known.{all, table}
-use Rattle.paper.specs.Paper.{sequences, positions, macroblocks, streamFault}
+use Rattle.paper.specs.Paper.{sequences, positions, macroblocks, streamFault, soundChannel, soundFirst, modeSaid}
 use Rattle.paper.specs.Bytes.{OwnCount}
 use Rattle.rules_format.specs.InNumbers.{InNumbers}
 use Rattle.kept.specs.EveryCall.{EveryCall}
 use Rattle.promises.specs.Demand2.{IdOut, ViewOut, MacroblockOut, Strict, ReadOut, GoesThrough, LaidOut, ReadsBack, WritesBack, tone}
 use Rattle.rules_reads.specs.Strict.{StrictlyRead}
 use Rattle.promises.specs.Demand3.{SampleSalvaged, Listed, Salvages}
+use Rattle.promises.specs.Unrecorded.{Marks, ComesBackLost, SameButAudio, SameButAaux}
+use Rattle.promises.proofs.Unrecorded.{marks-aaux}
 use Rattle.kept.proofs.Deciding.{ids-decided, views-decided, macroblocks-decided, reads-decided}
 use Rattle.kept.proofs.WritingBack.{writes-back, strict-decided, frame-decided}
 use Rattle.rules_surveys.proofs.Listing.{same-listed}
 use Rattle.kept.proofs.Salvaging.{salvages, salvage-decided}
 use Rattle.kept.proofs.Worthless.{tone-taken, one-for-two, frame-for-two, all-lost}
+use Rattle.kept.proofs.Unrecorded.{comes-back-lost, others-same, same-salvage, same-check, same-survey, same-macroblock, same-macroblock-at}
+use Rattle.kept.proofs.Unrecorded.{same-time, handed-out, some-marked}
 use Rattle.rules_format.proofs.Headlines as format
 use Rattle.rules_picture.proofs.Headlines as picture
 use Rattle.rules_packs.proofs.Headlines as packs
@@ -176,6 +186,47 @@ pub not-coasting : {n first m : ℕ} {bytes list list′ : List ℕ} {r : Survey
     → streamFault n bytes j (first + j) ≡ 0
 not-coasting = promised.not-coasting
 
+-- ---- unrecorded channels: g is f with audio channel c marked
+
+module _ {k : ℕ} {f : List ℕ} {c : ℕ} {g : List ℕ} (marks : Marks k f c g) where
+  -- a channel that is read, a, comes back with its count and every sample lost
+  pub unrecorded : {samples heard heard′ : List ℤ} {a o : AudioAnswer} → AudioRead k f c samples a heard → a .number ≡ 0 → AudioRead k g c samples o heard′
+      → ComesBackLost a samples o heard′
+  unrecorded = comes-back-lost marks
+
+  -- every other channel reads as before
+  pub unrecorded-others : (c′ : ℕ) → 0 < c → 0 < c′ → c′ < 9 → c′ ≢ c → {samples heard heard′ : List ℤ} {o o′ : AudioAnswer} → AudioRead k f c′ samples o heard
+      → AudioRead k g c′ samples o′ heard′ → (o ≡ o′) × (heard ≡ heard′)
+  unrecorded-others = others-same marks
+
+  -- a mark is a matter of AAUX alone
+  pub unrecorded-aaux : SameButAaux k f g
+  unrecorded-aaux = marks-aaux marks
+
+-- "salvage is unaffected", whatever stands in AAUX
+pub unrecorded-salvage : {k : ℕ} {f g : List ℕ} → SameButAaux k f g → {samples samples₁ samples₂ : List ℤ} {list list₁ list₂ : List ℕ} {r r′ : Survey}
+    → Salvaged k f samples list r samples₁ list₁ → Salvaged k g samples list r′ samples₂ list₂ → (r ≡ r′) × (samples₁ ≡ samples₂) × (list₁ ≡ list₂)
+unrecorded-salvage same = same-salvage same
+
+-- and no other read or survey looks behind the ID of an audio block
+module _ {k : ℕ} {f g : List ℕ} (same : SameButAudio k f g) where
+  pub audio-apart-check : {r r′ : ℕ} → Checked k f r → Checked k g r′ → r ≡ r′
+  audio-apart-check = same-check same
+
+  pub audio-apart-survey : {list list₁ list₂ : List ℕ} {r r′ : Survey} → FrameSurveyed k f list r list₁ → FrameSurveyed k g list r′ list₂
+      → (r ≡ r′) × (list₁ ≡ list₂)
+  audio-apart-survey = same-survey same
+
+  pub audio-apart-macroblock : {b number number′ : ℕ} {part part′ : List ℕ} → MacroblockNumbered k f b number → MacroblockRead k f b part
+      → MacroblockNumbered k g b number′ → MacroblockRead k g b part′ → (number ≡ number′) × (part ≡ part′)
+  audio-apart-macroblock = same-macroblock same
+
+  pub audio-apart-macroblock-at : {b : ℕ} {r r′ : Part} → MacroblockLies k f b r → MacroblockLies k g b r′ → r ≡ r′
+  audio-apart-macroblock-at = same-macroblock-at same
+
+  pub audio-apart-time : {r r′ : TimeAnswer} → TimeRead k f r → TimeRead k g r′ → r ≡ r′
+  audio-apart-time = same-time same
+
 -- ---- the premises can be met, for each system and count; and what the demands refute
 
 module _ (k : ℕ) (below : k < 4) (count : ℕ) (own : OwnCount k count) where
@@ -192,5 +243,16 @@ module _ (k : ℕ) (below : k < 4) (count : ℕ) (own : OwnCount k count) where
   pub not-empty-writer : {frame : List ℕ} → Wrote k (tone k count 5) frame 0 frame → Wrote k (tone k count 6) frame 0 frame → ⊥
   not-empty-writer = frame-for-two k below count own
 
+  -- a marked channel whose words are handed out: the writer's level 5 is in none of its entries below the count
+  pub not-handed-out : (c t : ℕ) → 0 < c → c < 9 → t < count → {frame f g : List ℕ} {samples heard : List ℤ} {o : AudioAnswer}
+      → Wrote k (tone k count 5) frame 0 f → Marks k f c g → length samples ≡ positions k → AudioRead k g c samples o heard → getD heard t (pos 0) ≡ pos 5 → ⊥
+  not-handed-out = handed-out k below count own
+
   pub not-all-lost : (c t : ℕ) → 0 < c → c < 9 → t < count → {f : List ℕ} → SampleSalvaged (sequences k) (tone k count 5) f f c t (pos 32768) → ⊥
   not-all-lost c t c1 c8 ht = all-lost k count c t c1 c8 ht
+
+-- a channel of which one AS is marked and another is not is not read
+pub not-some-marked : {k : ℕ} {f : List ℕ} {c : ℕ} {samples heard : List ℤ} {o : AudioAnswer} → AudioRead k f c samples o heard → (i j : ℕ)
+    → i < sequences k / 2 → j < sequences k / 2 → modeSaid (sequences k) f (soundChannel c) (soundFirst (sequences k) c + i) ≡ 0xF
+    → modeSaid (sequences k) f (soundChannel c) (soundFirst (sequences k) c + j) ≢ 0xF → o .number ≢ 0
+not-some-marked = some-marked

@@ -4,4 +4,5 @@ pub mod WritingBack
 pub mod Salvaging
 pub mod Deciding
 pub mod Worthless
+pub mod Unrecorded
 pub mod Demands

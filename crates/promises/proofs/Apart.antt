@@ -1,36 +1,38 @@
 -- What two frames that differ in audio blocks alone have in common, in the refusal tables and in what is read. No contract is asked. Assumes nothing.
-use mathlib.Core.Path.{_≡_, refl, sym, ap, ap₂, _∙_, subst}
-use mathlib.Core.Bool.{Bool, true, false, not}
+use mathlib.Core.Path.{_≡_, refl, sym, ap, _∙_}
+use mathlib.Core.Bool.{not}
 use mathlib.Core.List.{List, [], _∷_}
 use mathlib.Core.Logic.{_⊎_, inl, inr, ⊎-elim, _≢_}
 use Prim.Native.Nat.{ℕ, _+_, _-_, _*_, _/_, _%_, _≤_, _<_}
 use native.Mathlib.Omega.{arith}
-use lib.Dec.{T, eqb}
-use lib.IntN.{ℤ, pos}
-use lib.ListN.{length, getD}
-use borrow.Author.Tests.{eqb-true, eqb-false, not-true}
+use lib.Dec.{eqb}
+use lib.IntN.{ℤ}
+use lib.ListN.{length, getD, set, length-set, List·getD-eq-default}
+use lib.Seq.{getD-set-other}
+use borrow.Author.Tests.{eqb-false, not-true}
 use Rattle.base.specs.Below.{below}
-use Rattle.base.specs.Pick.{pick}
 use Rattle.base.proofs.Below.{below-means}
+use Rattle.base.proofs.Cases.{by-lt}
 use Rattle.base.proofs.Picks.{pick-either}
 use Rattle.base.proofs.Runs.{run-same, tab-part, tab-same}
 use Rattle.paper.specs.declared.System.{System}
 use Rattle.paper.specs.declared.SystemNumber.the-variants.{Known}
 use Rattle.paper.specs.declared.Survey.{Survey}
-use Rattle.paper.specs.Paper.{sequences, positions, start, byteAt, bytesAt, sectionAt, figure3, fault, streamFault, records, soundChannel, soundFirst, soundIndex}
-use Rattle.paper.specs.Paper.{soundStart, soundWord, sampleBy, asPack, asPlace, countBy, countSaid, modeSaid, vsPack, vauxPlace, vauxByte, ssybPlace, ssybByte}
+use Rattle.paper.specs.Paper.{sequences, positions, start, byteAt, bytesAt, sectionAt, figure3, streamFault, records, soundChannel, soundFirst, soundIndex}
+use Rattle.paper.specs.Paper.{soundWord, sampleBy, countBy, vsPack, vauxPlace, vauxByte, ssybPlace, ssybByte}
 use Rattle.paper.specs.Paper.{slotPlace}
 use Rattle.paper.specs.Bytes.{compared}
 use Rattle.promises.specs.Refusals.{Table, _if_, _else_, none, FirstFault, Some, WrongDsf, VsDisagrees, Flagged, vsByte, SomeInHalf, asByte, AsBreaks}
 use Rattle.promises.specs.Refusals.{ssybAt, WrongFirst, Differs, DifferInHalf, AsDiffer, checked, soundTable, audioTable}
-use Rattle.promises.specs.Refusals.{macroblockTable, timeTable}
+use Rattle.promises.specs.Refusals.{surveyTable, salvageTable, checkTable, macroblockTable, timeTable}
 use Rattle.promises.specs.Refusals.WrongFirst.{wrongTimeHeader, wrongDigit, wrongGroupHeader}
 use Rattle.promises.specs.Refusals.Differs.{otherTime, otherGroup}
 use Rattle.promises.specs.Demand3.{faultFor, PositionOut, SalvageOut, Listed}
 use Rattle.promises.specs.Unrecorded.{SameButAudio, SameButAaux}
 use Rattle.rules_format.specs.Systems.{systemOf}
 use Rattle.rules_format.proofs.Blocks.{before-channel}
-use Rattle.rules_format.proofs.Paper.{columns, time-below, group-below}
+use Rattle.rules_format.proofs.Systems.{sequences-some}
+use Rattle.rules_format.proofs.Paper.{columns, known-system, time-below, group-below}
 use Rattle.rules_format.proofs.Numbers.{sound-within, word-within}
 
 -- ---- tables: what one gives, the other gives
@@ -72,7 +74,7 @@ apart-sym s = record {
 }
 
 -- places 0 to 5 are of other sections
-low-section : (p : ℕ) → p < 6 → sectionAt p ≢ 3
+pub low-section : (p : ℕ) → p < 6 → sectionAt p ≢ 3
 unfolding figure3
 low-section p h = eqb-false _ _ (not-true _ (below-means (λ (i : ℕ). not (eqb (sectionAt i) 3)) 6 refl p h))
 
@@ -183,11 +185,27 @@ module _ {k : ℕ} {f g : List ℕ} (s : SameButAaux k f g) (y : System) (known 
       let e : faultFor (sequences k) g c t ≡ faultFor (sequences k) f c t = fault-same (s .blocks) (soundIndex (sequences k) c t) (soundIndex (sequences k) c t) index-below in
       record { unnamed = λ d. a .unnamed (λ z. d (e ∙ z)); renamed = λ z. a .renamed (sym e ∙ z) ∙ ap sampleBy (sym (word-same ht)) }
 
-pub salvage-out-same : {k : ℕ} {f g : List ℕ} {samples : List ℤ} → SameButAaux k f g → (y : System) → systemOf k ≡ Known y → SalvageOut k f samples → SalvageOut k g samples
-salvage-out-same s y known a = record {
+pub salvage-out-same : {k : ℕ} {f g : List ℕ} {samples : List ℤ} → SameButAaux k f g → SalvageOut k f samples → SalvageOut k g samples
+salvage-out-same {k} s a = record {
   size = a .size;
-  position = λ c t c1 c8 ht. position-same s y known c t c1 c8 ht (a .position c t c1 c8 ht);
+  position = λ c t c1 c8 ht.
+      by-lt k 4
+      (λ below. known-system k below (λ y known. position-same s y known c t c1 c8 ht (a .position c t c1 c8 ht)))
+      (λ above. let none : positions k ≡ 0 = List·getD-eq-default {A = ℕ} (1620 ∷ 1944 ∷ 1620 ∷ 1944 ∷ []) 0 above in absurd (omega (arith, ht, none)));
 }
+
+-- ---- surveyTable, salvageTable, checkTable: the length of the frame is the same
+
+pub survey-gives : {k : ℕ} {f g : List ℕ} {r : ℕ} → SameButAudio k f g → Gives r (surveyTable k (length f)) (surveyTable k (length g))
+survey-gives s = record { too = λ e. rw (s .size) e }
+
+pub salvage-gives : {k room : ℕ} {f g : List ℕ} {r : ℕ} → SameButAudio k f g → Gives r (salvageTable k (length f) room) (salvageTable k (length g) room)
+salvage-gives s = record { too = λ e. rw (s .size) e }
+
+pub check-gives : {k : ℕ} {f g : List ℕ} {r : ℕ} → SameButAudio k f g → Gives r (checkTable k f) (checkTable k g)
+check-gives s =
+    else-gives (same-if 1 (λ h. h) (λ h. h))
+    (else-gives (same-if 2 (λ d z. d (sym (s .size) ∙ z)) (λ d z. d (s .size ∙ z))) (checked-gives s none-gives))
 
 -- ---- macroblockTable, timeTable
 
@@ -202,6 +220,9 @@ macroblock-gives s =
     (else-gives (same-if 2 (λ d z. d (sym (s .size) ∙ z)) (λ d z. d (s .size ∙ z)))
     (else-gives (same-if 3 (λ h. h) (λ h. h))
     (checked-gives s (else-gives (same-if 23 (flag-to s 6 (omega arith)) (flag-to (apart-sym s) 6 (omega arith))) none-gives))))
+
+pub some-sequence : (k : ℕ) → k < 4 → 0 < sequences k
+some-sequence k below = known-system k below (λ y known. omega (arith, sequences-some y, columns k y known .sequences-is))
 
 -- a byte of the pack of an SSYB
 module _ {k : ℕ} {f g : List ℕ} (s : SameButAudio k f g) where
@@ -231,15 +252,23 @@ module _ {k : ℕ} {f g : List ℕ} (s : SameButAudio k f g) where
     differs-to h q hh hq (otherGroup j i held hi d) =
         otherGroup j i held hi (λ z. d (sym (ssyb-same h q j i hh hq (group-below _ q j held) hi) ∙ z ∙ first-same 4 i (omega arith) hi))
 
-pub time-gives : {k : ℕ} {f g : List ℕ} {r : ℕ} → 0 < sequences k → SameButAudio k f g → Gives r (timeTable k f) (timeTable k g)
-time-gives some s =
-    let back = apart-sym s in
-    else-gives (same-if 1 (λ h. h) (λ h. h))
-    (else-gives (same-if 2 (λ d z. d (sym (s .size) ∙ z)) (λ d z. d (s .size ∙ z)))
-    (checked-gives s
-    (else-gives (same-if 23 (flag-to s 7 (omega arith)) (flag-to back 7 (omega arith)))
-    (else-gives (same-if 26 (wrong-first-to s some) (wrong-first-to back some))
-    (else-gives (same-if 27 (some-to (differs-to s some)) (some-to (differs-to back some))) none-gives)))))
+pub time-gives : {k : ℕ} {f g : List ℕ} {r : ℕ} → SameButAudio k f g → Gives r (timeTable k f) (timeTable k g)
+time-gives {k} {f} {g} {r} s = record {
+  too = λ e.
+      by-lt k 4
+      (λ below. rows (some-sequence k below) .too e)
+      (λ above. ⊎-elim (λ h. inl h) (λ past. absurd (past .0 1 (refl, above))) e);
+}
+  where
+    rows : 0 < sequences k → Gives r (timeTable k f) (timeTable k g)
+    rows some =
+        let back = apart-sym s in
+        else-gives (same-if 1 (λ h. h) (λ h. h))
+        (else-gives (same-if 2 (λ d z. d (sym (s .size) ∙ z)) (λ d z. d (s .size ∙ z)))
+        (checked-gives s
+        (else-gives (same-if 23 (flag-to s 7 (omega arith)) (flag-to back 7 (omega arith)))
+        (else-gives (same-if 26 (wrong-first-to s some) (wrong-first-to back some))
+        (else-gives (same-if 27 (some-to (differs-to s some)) (some-to (differs-to back some))) none-gives)))))
 
 -- ---- audioTable
 
@@ -271,7 +300,7 @@ module _ {k : ℕ} {f g : List ℕ} {c : ℕ} (s : SameAs k f g c) where
       s .byte (b .r) 3 (b .rank) (omega arith),
       s .byte (b .r) 4 (b .rank) (omega arith),
     )
-    (b .is);
+        (b .is);
   }
 
 pub differ-to : {n c : ℕ} {said said′ : ℕ → ℕ → ℕ} → ((r : ℕ) → r < n / 2 → said′ (soundChannel c) (soundFirst n c + r) ≡ said (soundChannel c) (soundFirst n c + r))
@@ -297,3 +326,23 @@ sound-gives s a =
     let back = same-as-sym a in
     else-gives (same-if 23 (flag-to s 5 (omega arith)) (flag-to (apart-sym s) 5 (omega arith)))
     (else-gives (same-if 24 (breaks-to a) (breaks-to back)) (else-gives (same-if 25 (as-differ-to a) (as-differ-to back)) none-gives))
+
+-- ---- what may differ: any byte behind the ID of an audio block, and any of AAUX
+
+module _ (k : ℕ) (f : List ℕ) (j b v : ℕ) (audio : sectionAt (j % 150) ≡ 3) (low : 3 ≤ b) where
+  -- a byte of another place
+  elsewhere : b < 80 → (j′ b′ : ℕ) → b′ < 80 → (j′ ≡ j → b′ ≢ b) → getD (set f (j * 80 + b) v) (j′ * 80 + b′) 0 ≡ getD f (j′ * 80 + b′) 0
+  elsewhere hb j′ b′ hb′ d = getD-set-other f (j * 80 + b) (j′ * 80 + b′) v 0 (λ e. d (omega (arith, e, hb, hb′)) (omega (arith, e, hb, hb′)))
+
+  pub audio-free : b < 80 → SameButAudio k f (set f (j * 80 + b) v)
+  audio-free hb = record {
+    size = length-set f (j * 80 + b) v;
+    ids = λ j′ b′ hj hb′. elsewhere hb j′ b′ (omega arith) (λ same z. omega (arith, z, low, hb′));
+    others = λ j′ b′ hj hb′ d. elsewhere hb j′ b′ hb′ (λ same. absurd (d (rw same audio)));
+  }
+
+  pub aaux-free : b < 8 → SameButAaux k f (set f (j * 80 + b) v)
+  aaux-free hb = record {
+    blocks = audio-free (omega arith);
+    words = λ j′ b′ hj eight hb′. elsewhere (omega arith) j′ b′ hb′ (λ same z. omega (arith, z, eight, hb));
+  }

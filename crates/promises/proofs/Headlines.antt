@@ -1,19 +1,24 @@
 -- What an edit of a promise is refused by: each statement leaves one answer, so that a clause that is weakened is noticed. Assumes nothing.
 use mathlib.Core.Path.{_≡_}
 use mathlib.Core.List.{List}
-use Prim.Native.Nat.{ℕ, _+_, _-_, _*_, _<_}
+use Prim.Native.Nat.{ℕ, _+_, _-_, _*_, _%_, _≤_, _<_}
 use lib.Dec.{ltb}
 use lib.IntN.{pos, ℤ}
-use lib.ListN.{getD, take, drop}
+use lib.ListN.{length, getD, take, drop, set}
 use Rattle.base.specs.Pick.{pick}
-use Rattle.paper.specs.Paper.{soundIndex, back, macroblocks, streamFault}
+use Rattle.base.specs.Calls.{ExactlyOne}
+use Rattle.paper.specs.Paper.{sequences, sectionAt, soundIndex, back, macroblocks, streamFault}
 use Rattle.promises.specs.Contents.{Contents}
 use Rattle.promises.specs.Demand2.{Strict, ReadsBack, IdOut, ViewOut, MacroblockOut, ReadOut, GoesThrough, LaidOut}
 use Rattle.paper.specs.declared.Survey.{Survey}
+use Rattle.paper.specs.declared.AudioAnswer.{AudioAnswer}
 use Rattle.promises.specs.Demand3.{Listed, SalvageOut, Salvages, SampleSalvaged}
+use Rattle.promises.specs.Unrecorded.{Marks, ComesBackLost, SameButAudio, SameButAaux}
+use Rattle.promises.proofs.Apart.{audio-free, aaux-free}
+use Rattle.promises.proofs.Unrecorded.{marks-one}
 use Rattle.rules_format.proofs.Paper.{known-system}
 use Rattle.promises.proofs.One.{listed-one, ids-one, views-one, macroblocks-one, reads-one, reads-back-one, salvages-one, salvage-out-one}
-use Rattle.promises.proofs.One.{untouched-one, coasting}
+use Rattle.promises.proofs.One.{lost-one, untouched-one, coasting}
 use Rattle.paper.specs.declared.Place.{Place}
 use Rattle.paper.specs.declared.IdAnswer.{IdAnswer}
 use Rattle.paper.specs.declared.IdValues.{IdValues}
@@ -66,6 +71,21 @@ one-frame {k} below {l} {f} {g} a b = known-system k below (λ y known. laid-out
 
 pub one-back : {l : Contents} {c : ℕ} {samples : List ℤ} {b : ℕ} {o o′ : Strict} → ReadsBack l c samples b o → ReadsBack l c samples b o′ → o ≡ o′
 one-back = reads-back-one
+
+-- ---- unrecorded channels: the frame with an audio channel marked, what comes back of it, and what may differ where nothing else does
+
+pub one-marked : (k : ℕ) (f : List ℕ) (c : ℕ) → length f ≡ 48000 * sequences k → 0 < c → c < 9 → ExactlyOne (List ℕ) (Marks k f c)
+one-marked = marks-one
+
+pub one-lost : {a o o′ : AudioAnswer} {samples heard heard′ : List ℤ} → ComesBackLost a samples o heard → ComesBackLost a samples o′ heard′
+    → (o ≡ o′) × (heard ≡ heard′)
+one-lost = lost-one
+
+pub any-audio : (k : ℕ) (f : List ℕ) (j b v : ℕ) → sectionAt (j % 150) ≡ 3 → 3 ≤ b → b < 80 → SameButAudio k f (set f (j * 80 + b) v)
+any-audio = audio-free
+
+pub any-aaux : (k : ℕ) (f : List ℕ) (j b v : ℕ) → sectionAt (j % 150) ≡ 3 → 3 ≤ b → b < 8 → SameButAaux k f (set f (j * 80 + b) v)
+any-aaux = aaux-free
 
 -- ---- 3: the fault list, and what is salvaged
 

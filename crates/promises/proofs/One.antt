@@ -14,6 +14,8 @@ use Rattle.promises.specs.Demand2.{Strict, ReadsBack, IdOut, ViewOut, Ma
 use lib.Dec.{ltb}
 use Rattle.base.specs.Pick.{pick}
 use Rattle.paper.specs.declared.Survey.{Survey}
+use Rattle.paper.specs.declared.AudioAnswer.{AudioAnswer}
+use Rattle.promises.specs.Unrecorded.{ComesBackLost}
 use Rattle.promises.specs.Demand3.{Listed, faultFor, SalvageOut, Salvages, SampleSalvaged}
 use native.Mathlib.Nat.{div-add-mod', mod-lt, div-lt-iff-lt-mul, not-suc-le-zero}
 use borrow.Author.Tests.{ne-eqb}
@@ -101,6 +103,15 @@ reads-one {k} {f} {c} {samples} {b} {o} {o′} hb z z′ m m′ =
         group = (m .group (z .time) ∙ sym (m′ .group (z′ .time))) i;
       };
     }
+
+-- ---- ComesBackLost
+
+pub lost-one : {a o o′ : AudioAnswer} {samples heard heard′ : List ℤ} → ComesBackLost a samples o heard → ComesBackLost a samples o′ heard′
+    → (o ≡ o′) × (heard ≡ heard′)
+lost-one {a} m m′ = (
+  m .answer ∙ sym (m′ .answer),
+  lists-one (a .count) (m .size ∙ sym (m′ .size)) (λ t h. m .lost t h ∙ sym (m′ .lost t h)) (m .rest ∙ sym (m′ .rest)),
+)
 
 -- ---- Listed
 

@@ -1,21 +1,29 @@
 -- What a mark changes in the tables and in what is read. No contract is asked. Assumes nothing.
 use mathlib.Core.Path.{_≡_, refl, sym, ap, _∙_}
-use mathlib.Core.List.{List}
+use mathlib.Core.Bool.{Bool, not}
+use mathlib.Core.List.{List, [], _∷_}
 use mathlib.Core.Logic.{_⊎_, inl, inr, ⊎-elim, _≢_}
 use Prim.Native.Nat.{ℕ, _+_, _*_, _/_, _%_, _<_}
 use native.Mathlib.Omega.{arith}
-use lib.ListN.{getD}
-use Rattle.base.proofs.Picks.{pick-either}
-use Rattle.paper.specs.declared.System.{System}
-use Rattle.paper.specs.declared.SystemNumber.the-variants.{Known}
+use lib.Dec.{eqb}
+use lib.ListN.{length, getD, List·getD-eq-default}
+use lib.Seq.{ext-getD}
+use borrow.Author.Tests.{eq-eqb, ne-eqb, eqb-true, eqb-false, not-true, not-false}
+use Rattle.base.specs.Below.{below}
+use Rattle.base.specs.Calls.{ExactlyOne}
+use Rattle.base.specs.Pick.{pick}
+use Rattle.base.specs.Run.{tab}
+use Rattle.base.proofs.Below.{below-means, below-when, below-fails, below-some}
+use Rattle.base.proofs.Cases.{by-lt, by-bool}
+use Rattle.base.proofs.Picks.{pick-true, pick-false, pick-either}
+use Rattle.base.proofs.Runs.{length-tab, tab-at}
 use Rattle.paper.specs.Paper.{sequences, start, sectionAt, figure3, soundChannel, soundFirst, asPack, asPlace, countBy, countSaid, modeSaid}
 use Rattle.paper.specs.Bytes.{WrongAs}
 use Rattle.paper.specs.Bytes.WrongAs.{wrongHeader, wrongLf, wrongSize, wrongChn, wrongMode, wrongRate, wrongStype, wrongSmpQu}
 use Rattle.promises.specs.Refusals.{SomeInHalf, asByte, AsBreaks, AsDiffer, audioTable}
 use Rattle.promises.specs.Unrecorded.{modeByte, Marks, SameButAaux}
-use Rattle.rules_format.specs.Systems.{systemOf}
 use Rattle.rules_format.proofs.Systems.{sequences-cases}
-use Rattle.rules_format.proofs.Paper.{columns}
+use Rattle.rules_format.proofs.Paper.{columns, known-system}
 use Rattle.promises.proofs.Apart.{Gives, same-if, else-gives, zero-gives, none-gives, apart-sym, flag-to, audio-gives, SameAs, differ-to}
 
 -- ---- Marks
@@ -55,8 +63,14 @@ one-channel n half c c′ r r′ c1 c1′ hr hr′ e =
     (λ ten. let e′ = rw ten at e in omega (arith, e′, rw ten at hr, rw ten at hr′))
     (λ twelve. let e′ = rw twelve at e in omega (arith, e′, rw twelve at hr, rw twelve at hr′)) half
 
-sequences-two : (k : ℕ) (y : System) → systemOf k ≡ Known y → (sequences k ≡ 10) ⊎ (sequences k ≡ 12)
-sequences-two k y known = let is = columns k y known .sequences-is in ⊎-elim (λ ten. inl (is ∙ ten)) (λ twelve. inr (is ∙ twelve)) (sequences-cases y)
+-- a sequence of a half is one of a system's
+sequences-two : (k r : ℕ) → r < sequences k / 2 → (sequences k ≡ 10) ⊎ (sequences k ≡ 12)
+sequences-two k r h =
+    by-lt k 4
+    (λ below.
+    known-system k below (λ y known.
+    let is = columns k y known .sequences-is in ⊎-elim (λ ten. inl (is ∙ ten)) (λ twelve. inr (is ∙ twelve)) (sequences-cases y)))
+    (λ above. let none : sequences k ≡ 0 = List·getD-eq-default {A = ℕ} (10 ∷ 12 ∷ 10 ∷ 12 ∷ []) 0 above in absurd (omega (arith, h, none)))
 
 module _ {k : ℕ} {f : List ℕ} {c : ℕ} {g : List ℕ} (m : Marks k f c g) where
   abbrev h : ℕ
@@ -75,15 +89,15 @@ module _ {k : ℕ} {f : List ℕ} {c : ℕ} {g : List ℕ} (m : Marks k f c g) w
   own-mode r hr = ap (λ (x : ℕ). x % 16) (m .mark r hr) ∙ omega arith
 
   -- another channel's
-  pub marks-as : (y : System) → systemOf k ≡ Known y → (c′ : ℕ) → 0 < c → 0 < c′ → c′ ≢ c → SameAs k f g c′
-  marks-as y known c′ c1 c1′ d = record {
+  pub marks-as : (c′ : ℕ) → 0 < c → 0 < c′ → c′ ≢ c → SameAs k f g c′
+  marks-as c′ c1 c1′ d = record {
     byte = λ r i hr hi.
         let n = sequences k in
         let q′ = soundFirst n c′ + r in
         m .other (start n (soundChannel c′) q′ (asPlace q′) + (3 + i)) (λ r′ hr′ e.
         let place = as-place q′ .1 in
         let place′ = as-place (q r′) .1 in
-        d (one-channel n (sequences-two k y known) c′ c r r′ c1′ c1 hr hr′ (omega (arith, e, hi, place, place′))));
+        d (one-channel n (sequences-two k r hr) c′ c r r′ c1′ c1 hr hr′ (omega (arith, e, hi, place, place′))));
   }
 
 -- what breaks the rules when it is marked broke them before
@@ -134,3 +148,55 @@ module _ {k : ℕ} {f : List ℕ} {c : ℕ} {g : List ℕ} (m : Marks k f c g) w
 
   pub marked-mode : 0 < sequences k / 2 → modeSaid (sequences k) g (soundChannel c) (soundFirst (sequences k) c) ≡ 0xF
   marked-mode some = let zero : soundFirst (sequences k) c + 0 ≡ soundFirst (sequences k) c = omega arith in rw zero at (own-mode m 0 some)
+
+-- ---- a frame with an audio channel marked: there is one, and no other
+
+module _ (k : ℕ) (f : List ℕ) (c : ℕ) (whole : length f ≡ 48000 * sequences k) (c1 : 0 < c) (c8 : c < 9) where
+  -- byte i is no mode's of the channel
+  keeps : ℕ → Bool
+  keeps i = below (λ (r : ℕ). not (eqb i (modeByte (sequences k) c r))) (sequences k / 2)
+
+  markedByte : ℕ → ℕ
+  markedByte i = pick (keeps i) (getD f i 0) (getD f i 0 / 16 * 16 + 0xF)
+
+  mode-within : (r : ℕ) → r < sequences k / 2 → modeByte (sequences k) c r < length f
+  mode-within r hr =
+      let place = as-place (soundFirst (sequences k) c + r) .1 in
+      ⊎-elim
+      (λ (ten : sequences k ≡ 10). rw ten (omega (arith, whole, ten, rw ten at place, rw ten at hr)))
+      (λ (twelve : sequences k ≡ 12). rw twelve (omega (arith, whole, twelve, rw twelve at place, rw twelve at hr))) (sequences-two k r hr)
+
+  mode-marked : (r : ℕ) → r < sequences k / 2 → markedByte (modeByte (sequences k) c r) ≡ getD f (modeByte (sequences k) c r) 0 / 16 * 16 + 0xF
+  unfolding markedByte keeps
+  mode-marked r hr = pick-false _ _ (below-fails (λ (x : ℕ). not (eqb (modeByte (sequences k) c r) (modeByte (sequences k) c x))) (sequences k / 2) r hr (rw (eq-eqb (modeByte (sequences k) c r) _ refl) refl))
+
+  other-kept : (i : ℕ) → ((r : ℕ) → r < sequences k / 2 → i ≢ modeByte (sequences k) c r) → markedByte i ≡ getD f i 0
+  unfolding markedByte keeps
+  other-kept i d = pick-true _ _ (below-when (λ (r : ℕ). not (eqb i (modeByte (sequences k) c r))) (sequences k / 2) (λ r hr. rw (ne-eqb i _ (d r hr)) refl))
+
+  -- by the byte: no mode's, or that of rank r
+  by-byte : {P : Type 0} (i : ℕ) → (((r : ℕ) → r < sequences k / 2 → i ≢ modeByte (sequences k) c r) → P)
+      → ((r : ℕ) → r < sequences k / 2 → i ≡ modeByte (sequences k) c r → P) → P
+  unfolding keeps
+  by-byte i none one =
+      by-bool (keeps i)
+      (λ e. none (λ r hr. eqb-false _ _ (not-true _ (below-means (λ (r : ℕ). not (eqb i (modeByte (sequences k) c r))) (sequences k / 2) e r hr))))
+      (λ e. below-some (λ (r : ℕ). not (eqb i (modeByte (sequences k) c r))) (sequences k / 2) e (λ r hr n. one r hr (eqb-true _ _ (not-false _ n))))
+
+  pub marks-one : ExactlyOne (List ℕ) (Marks k f c)
+  marks-one = record {
+    outcome = tab markedByte (length f);
+    meets = record {
+      size = length-tab markedByte (length f);
+      mark = λ r hr. tab-at 0 markedByte (modeByte (sequences k) c r) (length f) (mode-within r hr) ∙ mode-marked r hr;
+      other = λ i d.
+          by-lt i (length f)
+          (λ l. tab-at 0 markedByte i (length f) l ∙ other-kept i d)
+          (λ past. List·getD-eq-default (tab markedByte (length f)) 0 (omega (arith, past, length-tab markedByte (length f))) ∙ sym (List·getD-eq-default f 0 past));
+    };
+    only = λ g m.
+        ext-getD 0 g (tab markedByte (length f)) (m .size ∙ sym (length-tab markedByte (length f))) (λ i h.
+        let l : i < length f = omega (arith, h, m .size) in
+        by-byte i (λ d. m .other i d ∙ sym (other-kept i d)) (λ r hr e. rw e (m .mark r hr ∙ sym (mode-marked r hr)))
+        ∙ sym (tab-at 0 markedByte i (length f) l));
+  }

@@ -7,9 +7,9 @@ use native.Mathlib.Nat.{div-eq-of-lt, mul-add-div}
 use native.Mathlib.Omega.{arith}
 use lib.Dec.{eqb, ltb}
 use lib.ListN.{replicate, getD, length}
-use borrow.Author.Tests.{lt-ltb, le-ltb, ne-eqb}
+use borrow.Author.Tests.{lt-ltb, le-ltb}
 use Rattle.base.specs.Pick.{pick}
-use Rattle.base.proofs.Cases.{by-lt, by-bool, clash}
+use Rattle.base.proofs.Cases.{by-lt, by-bool}
 use Rattle.base.proofs.Picks.{pick-true, pick-false}
 use Rattle.paper.specs.declared.System.{System}
 use Rattle.paper.specs.declared.SystemNumber.the-variants.{Known}

@@ -1,0 +1,292 @@
+-- The workshop of "Unrecorded channels come back as faults": what the calls answer of two frames that differ in audio blocks alone, by what the promises
+-- say of each. Assumes nothing.
+use mathlib.Core.Path.{_≡_, refl, sym, ap, _∙_, subst}
+use mathlib.Core.List.{List, []}
+use mathlib.Core.Logic.{_⊎_, inr, ⊎-elim, _≢_}
+use Prim.Native.Nat.{ℕ, _+_, _*_, _/_, _%_, _≤_, _<_}
+use native.Mathlib.Omega.{arith}
+use lib.IntN.{ℤ, pos}
+use lib.ListN.{length, getD}
+use Rattle.base.proofs.Cases.{by-lt, by-eq}
+use Rattle.paper.specs.declared.System.{System}
+use Rattle.paper.specs.declared.SystemNumber.the-variants.{Known}
+use Rattle.paper.specs.declared.Survey.{Survey}
+use Rattle.paper.specs.declared.Part.{Part}
+use Rattle.paper.specs.declared.AudioAnswer.{AudioAnswer}
+use Rattle.paper.specs.declared.TimeAnswer.{TimeAnswer}
+use Rattle.paper.specs.Paper.{sequences, positions, macroblocks, soundChannel, soundFirst, sampleBy, countBy, modeSaid, slotPlace, bytesAt}
+use Rattle.paper.specs.Bytes.{OwnCount}
+use Rattle.promises.specs.Refusals.{Table, _if_, _else_, asByte, audioTable, macroblockTable, timeTable}
+use Rattle.promises.specs.Demand1.{Answers}
+use Rattle.promises.specs.Demand2.{Strict, ReadOut, tone}
+use Rattle.promises.specs.Unrecorded.{Marks, ComesBackLost, SameButAudio, SameButAaux}
+use Rattle.promises.proofs.Apart.{Gives, check-gives, survey-gives, salvage-gives, some-sequence, macroblock-gives, time-gives, low-same, bytes-same, slot-section, low-section, audio-gives, sound-gives, SameAs, word-same, listed-same, salvage-out-same}
+use Rattle.promises.proofs.Unrecorded.{marks-aaux, marks-as, marked-gives, marked-count, marked-mode}
+use Rattle.promises.proofs.One.{lists-one, listed-one, salvage-out-one}
+use Rattle.rules_format.specs.Systems.{sequencesOf, systemOf}
+use Rattle.rules_format.proofs.Systems.{sequences-cases, macroblocks-some}
+use Rattle.rules_format.proofs.Paper.{columns, known-system}
+use Rattle.rules_surveys.specs.Survey.{FrameSurveyed}
+use Rattle.rules_surveys.specs.Salvage.{Salvaged}
+use Rattle.rules_surveys.proofs.Headlines as surveys
+use Rattle.rules_reads.specs.Check.{Checked}
+use Rattle.rules_reads.specs.Audio.{audioNumber, AudioRead}
+use Rattle.rules_reads.specs.Macroblock.{MacroblockNumbered, MacroblockRead, MacroblockLies}
+use Rattle.rules_reads.specs.Time.{TimeRead}
+use Rattle.rules_picture.proofs.Slots.{slot-of}
+use Rattle.rules_reads.specs.Strict.{StrictlyRead}
+use Rattle.rules_writes.specs.Write.{Wrote}
+use Rattle.kept.proofs.Deciding.{read-below}
+use Rattle.kept.proofs.WritingBack.{writes-back}
+use Rattle.rules_reads.proofs.Headlines as reads
+use Rattle.rules_reads.proofs.Check.{check-frame-one}
+use Rattle.rules_reads.proofs.Audio.{read-audio-one, audio-count, audio-zero, audio-taken}
+use Rattle.rules_reads.proofs.Answering.{audio-number}
+use Rattle.rules_reads.proofs.Macroblock.{macroblock-number-one, macroblock-one, macroblock-lies-number}
+use Rattle.rules_reads.proofs.Time.{read-time-one}
+
+-- ---- one call on two inputs: where the table of the one gives what that of the other gives, a refusal is the same
+
+alike : {Outcome : Type 0} {Meets Meets′ : Outcome → Type 0} {answered : Outcome → ℕ} {table table′ : Table} {Quiet : Outcome → Type 0} {o o′ : Outcome}
+    → Answers Outcome Meets answered table Quiet → Answers Outcome Meets′ answered table′ Quiet → Gives (answered o) table table′ → Meets o → Meets′ o′
+    → (answered o ≡ 0 → answered o′ ≡ 0 → o ≡ o′) → o ≡ o′
+alike {answered = answered} {o = o} {o′ = o′} a a′ gives m m′ zero =
+    let same : answered o ≡ answered o′ = a′ .no-other o′ m′ (answered o) (gives .too (a .numbered o m)) in
+    by-eq (answered o) 0 (λ z. zero z (sym same ∙ z)) (λ d. a .told o o′ d same (a .refused o m d) (a′ .refused o′ m′ (λ z. d (same ∙ z))))
+
+-- where a table gives 0, its first rows do not hold: the system is known, and the frame has its length
+first-rows : {k size : ℕ} {Rest : Type 0} → (1 if (3 < k) else 2 if (size ≢ 48000 * sequences k) else (λ (r : ℕ). Rest)) 0 → (k < 4) × (size ≡ 48000 * sequences k)
+first-rows {k} {size} =
+    ⊎-elim
+    (λ h. let e : _≡_ {A = ℕ} 0 1 = h .0 in absurd (omega (arith, e)))
+    (λ past.
+    ⊎-elim
+    (λ h. let e : _≡_ {A = ℕ} 0 2 = h .0 in absurd (omega (arith, e)))
+    (λ past′. (
+      by-lt k 4 (λ l. l) (λ above. absurd (past .0 1 (refl, above))),
+      by-eq size (48000 * sequences k) (λ e. e) (λ d. absurd (past′ .0 2 (refl, d))),
+    )) (past .1))
+
+-- ---- read_audio
+
+-- an audio read beside the other reads of its frame
+abbrev beside : ℕ → List ℕ → AudioAnswer → List ℤ → Strict
+beside k f r heard = record {
+  check = check-frame-one k f .outcome;
+  audio = r;
+  samples = heard;
+  number = macroblock-number-one k f 0 .outcome;
+  part = macroblock-one k f 0 .outcome;
+  time = read-time-one k f .outcome;
+}
+
+module _ {k : ℕ} {f : List ℕ} {c : ℕ} {samples heard : List ℤ} {r : AudioAnswer} (read : AudioRead k f c samples r heard) where
+  beside-read : StrictlyRead k f c samples 0 (beside k f r heard)
+  beside-read = record {
+    check = check-frame-one k f .meets;
+    audio = read;
+    number = macroblock-number-one k f 0 .meets;
+    part = macroblock-one k f 0 .meets;
+    time = read-time-one k f .meets;
+  }
+
+  audio-out : ReadOut k f c samples 0 (beside k f r heard)
+  audio-out = reads.reads-out beside-read
+
+  module _ (z : r .number ≡ 0) where
+    -- the system is known
+    read-system : k < 4
+    read-system = first-rows (subst (audioTable k f c (length samples)) z (reads.audio-answers k f c samples .numbered (r, heard) read)) .0
+
+    -- its samples are among the positions
+    count-within : (y : System) → systemOf k ≡ Known y → r .count < positions k
+    count-within y known =
+        let zero : audioNumber k f c (length samples) ≡ 0 = sym (audio-number k f c samples read) ∙ z in
+        omega (arith, ap (λ (a : AudioAnswer). a .count) (audio-taken k f c samples y known zero read .0), audio-count k f c samples y known zero, audio-zero k f c (length samples) y known zero .2, columns k y known .positions-is)
+
+half-some : (k : ℕ) → k < 4 → 0 < sequences k / 2
+half-some k below =
+    known-system k below (λ y known.
+    let is = columns k y known .sequences-is in
+    ⊎-elim (λ (ten : sequencesOf y ≡ 10). omega (arith, ten, is)) (λ (twelve : sequencesOf y ≡ 12). omega (arith, twelve, is)) (sequences-cases y))
+
+-- a channel that is read, marked
+pub comes-back-lost : {k : ℕ} {f : List ℕ} {c : ℕ} {g : List ℕ} {samples heard heard′ : List ℤ} {r r′ : AudioAnswer} → Marks k f c g
+    → AudioRead k f c samples r heard → r .number ≡ 0 → AudioRead k g c samples r′ heard′ → ComesBackLost r samples r′ heard′
+comes-back-lost {k} {f} {c} {g} {samples} {heard} {heard′} {r} {r′} m read z read′ =
+    let given : audioTable k f c (length samples) 0 = subst (audioTable k f c (length samples)) z (reads.audio-answers k f c samples .numbered (r, heard) read) in
+    let zero : r′ .number ≡ 0 = sym (reads.audio-answers k g c samples .no-other (r′, heard′) read′ 0 (marked-gives m .too given)) in
+    let some = half-some k (read-system read z) in
+    let out = audio-out read′ in
+    let count : r′ .count ≡ r .count = out .count zero ∙ marked-count m some ∙ sym (audio-out read .count z) in
+    record {
+      answer = λ i. record { number = zero i; count = count i };
+      lost = λ t h. out .unrecorded zero (marked-mode m some) t (omega (arith, h, count));
+      rest = rw count at (out .rest zero);
+      size = out .size;
+    }
+
+-- one whose AS packs are the same in both frames
+pub same-audio : {k : ℕ} {f g : List ℕ} {c : ℕ} {samples heard heard′ : List ℤ} {r r′ : AudioAnswer} → SameButAaux k f g → SameAs k f g c → 0 < c → c < 9
+    → AudioRead k f c samples r heard → AudioRead k g c samples r′ heard′ → (r ≡ r′) × (heard ≡ heard′)
+same-audio {k} {f} {g} {c} {samples} {heard} {heard′} {r} {r′} s a c1 c8 read read′ =
+    let e : _≡_ {A = AudioAnswer × List ℤ} (r, heard) (r′, heard′) =
+    alike (reads.audio-answers k f c samples) (reads.audio-answers k g c samples) (audio-gives (s .blocks) (sound-gives (s .blocks) a)) read read′ (λ z z′.
+    let out = audio-out read in
+    let out′ = audio-out read′ in
+    let below = read-system read z in
+    let first = half-some k below in
+    let zero : soundFirst (sequences k) c + 0 ≡ soundFirst (sequences k) c = omega arith in
+    let says : (i : ℕ) → i < 5 → asByte (sequences k) g (soundChannel c) (soundFirst (sequences k) c) i ≡ asByte (sequences k) f (soundChannel c) (soundFirst (sequences k) c) i =
+    λ i hi. rw zero at (a .byte 0 i first hi) in
+    let count : r .count ≡ r′ .count = out .count z ∙ sym (ap (λ (x : ℕ). countBy (x % 64)) (says 1 (omega arith))) ∙ sym (out′ .count z′) in
+    let mode : modeSaid (sequences k) g (soundChannel c) (soundFirst (sequences k) c) ≡ modeSaid (sequences k) f (soundChannel c) (soundFirst (sequences k) c) =
+    ap (λ (x : ℕ). x % 16) (says 2 (omega arith)) in
+    let samples-same : heard ≡ heard′ =
+    lists-one (r′ .count) (out .size ∙ sym (out′ .size))
+    (λ t h.
+    let h′ : t < r .count = omega (arith, h, count) in
+    by-eq (modeSaid (sequences k) f (soundChannel c) (soundFirst (sequences k) c)) 0xF
+    (λ mark. out .unrecorded z mark t h′ ∙ sym (out′ .unrecorded z′ (mode ∙ mark) t h))
+    (λ d.
+    known-system k below (λ y known.
+    out .sample z d t h′
+    ∙ ap sampleBy (sym (word-same s y known c t c1 c8 (omega (arith, h′, count-within read z y known))))
+    ∙ sym (out′ .sample z′ (λ x. d (sym mode ∙ x)) t h))))
+    (rw count at (out .rest z) ∙ sym (out′ .rest z′)) in
+    λ i. (record { number = (z ∙ sym z′) i; count = count i }, samples-same i)) in
+    (ap (λ (o : AudioAnswer × List ℤ). o .0) e, ap (λ (o : AudioAnswer × List ℤ). o .1) e)
+
+pub others-same : {k : ℕ} {f : List ℕ} {c : ℕ} {g : List ℕ} → Marks k f c g → (c′ : ℕ) → 0 < c → 0 < c′ → c′ < 9 → c′ ≢ c → {samples heard heard′ : List ℤ} {r r′ : AudioAnswer}
+    → AudioRead k f c′ samples r heard → AudioRead k g c′ samples r′ heard′ → (r ≡ r′) × (heard ≡ heard′)
+others-same m c′ c1 c1′ c8′ d read read′ = same-audio (marks-aaux m) (marks-as m c′ c1 c1′ d) c1′ c8′ read read′
+
+-- ---- the calls that do not look behind the ID of an audio block
+
+pub same-check : {k : ℕ} {f g : List ℕ} {r r′ : ℕ} → SameButAudio k f g → Checked k f r → Checked k g r′ → r ≡ r′
+same-check {k} {f} {g} s a a′ = alike (reads.check-answers k f) (reads.check-answers k g) (check-gives s) a a′ (λ z z′. z ∙ sym z′)
+
+pub same-survey : {k : ℕ} {f g list list₁ list₂ : List ℕ} {r r′ : Survey} → SameButAudio k f g → FrameSurveyed k f list r list₁ → FrameSurveyed k g list r′ list₂
+    → (r ≡ r′) × (list₁ ≡ list₂)
+same-survey {k} {f} {g} {list} {list₁} {list₂} {r} {r′} s a a′ =
+    let e : _≡_ {A = Survey × List ℕ} (r, list₁) (r′, list₂) =
+    alike (surveys.survey-answers k f list) (surveys.survey-answers k g list) (survey-gives s) a a′ (λ z z′.
+    let one = listed-one (listed-same s (surveys.surveys-listed k a z)) (surveys.surveys-listed k a′ z′) (z ∙ sym z′) in
+    λ i. (one .0 i, one .1 i)) in
+    (ap (λ (o : Survey × List ℕ). o .0) e, ap (λ (o : Survey × List ℕ). o .1) e)
+
+pub same-salvage : {k : ℕ} {f g : List ℕ} {samples samples₁ samples₂ : List ℤ} {list list₁ list₂ : List ℕ} {r r′ : Survey} → SameButAaux k f g
+    → Salvaged k f samples list r samples₁ list₁ → Salvaged k g samples list r′ samples₂ list₂ → (r ≡ r′) × (samples₁ ≡ samples₂) × (list₁ ≡ list₂)
+same-salvage {k} {f} {g} {samples} {samples₁} {samples₂} {list} {list₁} {list₂} {r} {r′} s a a′ =
+    let e : _≡_ {A = Survey × List ℤ × List ℕ} (r, samples₁, list₁) (r′, samples₂, list₂) =
+    alike (surveys.salvage-answers k f samples list) (surveys.salvage-answers k g samples list) (salvage-gives (s .blocks)) a a′ (λ z z′.
+    let one = listed-one (listed-same (s .blocks) (surveys.salvages-listed k a z)) (surveys.salvages-listed k a′ z′) (z ∙ sym z′) in
+    let heard = salvage-out-one (salvage-out-same s (surveys.salvages-out k a z)) (surveys.salvages-out k a′ z′) in
+    λ i. (one .0 i, heard i, one .1 i)) in
+    (ap (λ (o : Survey × List ℤ × List ℕ). o .0) e, ap (λ (o : Survey × List ℤ × List ℕ). o .1) e, ap (λ (o : Survey × List ℤ × List ℕ). o .2) e)
+
+module _ {k : ℕ} {f : List ℕ} {b number : ℕ} {part : List ℕ} (numbered : MacroblockNumbered k f b number) (read : MacroblockRead k f b part) where
+  picture-out : ReadOut k f 1 [] b (record {
+    check = check-frame-one k f .outcome;
+    audio = read-audio-one k f 1 [] .outcome .0;
+    samples = read-audio-one k f 1 [] .outcome .1;
+    number = number;
+    part = part;
+    time = read-time-one k f .outcome;
+  })
+  picture-out = reads.reads-out (record {
+    check = check-frame-one k f .meets;
+    audio = read-audio-one k f 1 [] .meets;
+    number = numbered;
+    part = read;
+    time = read-time-one k f .meets;
+  })
+
+pub same-macroblock : {k : ℕ} {f g : List ℕ} {b number number′ : ℕ} {part part′ : List ℕ} → SameButAudio k f g → MacroblockNumbered k f b number → MacroblockRead k f b part
+    → MacroblockNumbered k g b number′ → MacroblockRead k g b part′ → (number ≡ number′) × (part ≡ part′)
+same-macroblock {k} {f} {g} {b} {number} {number′} {part} {part′} s n a n′ a′ =
+    let e : _≡_ {A = ℕ × List ℕ} (number, part) (number′, part′) =
+    alike (reads.macroblock-answers k f b) (reads.macroblock-answers k g b) (macroblock-gives s) (n, a) (n′, a′) (λ z z′.
+    let slot = slot-of k b (read-below k f b (sym (n .answer) ∙ z)) in
+    let v = 5 * slot .g + slot .m in
+    let lies = slot-section v (omega (arith, slot .group, slot .unit)) in
+    let same = bytes-same s (first-rows (subst (macroblockTable k f b) z (reads.macroblock-answers k f b .numbered (number, part) (n, a))) .1) (slot .h) (slot .q) (slotPlace v) 3 77 (slot .channel) (slot .sequence) (omega (arith, slot .group, slot .unit)) (omega arith) lies in
+    let out = picture-out n a .macroblock z (slot .h) (slot .q) (slot .g) (slot .m) (slot .channel) (slot .sequence) (slot .group) (slot .unit) (slot .carries) in
+    let out′ = picture-out n′ a′ .macroblock z′ (slot .h) (slot .q) (slot .g) (slot .m) (slot .channel) (slot .sequence) (slot .group) (slot .unit) (slot .carries) in
+    λ i. ((z ∙ sym z′) i, (out ∙ sym same ∙ sym out′) i)) in
+    (ap (λ (o : ℕ × List ℕ). o .0) e, ap (λ (o : ℕ × List ℕ). o .1) e)
+
+pub same-macroblock-at : {k : ℕ} {f g : List ℕ} {b : ℕ} {r r′ : Part} → SameButAudio k f g → MacroblockLies k f b r → MacroblockLies k g b r′ → r ≡ r′
+same-macroblock-at {k} {f} {g} {b} s a a′ =
+    alike (reads.macroblock-at-answers k f b) (reads.macroblock-at-answers k g b) (macroblock-gives s) a a′ (λ z z′.
+    let out = reads.macroblocks-out a in
+    let out′ = reads.macroblocks-out a′ in
+    let slot = slot-of k b (read-below k f b (sym (macroblock-lies-number k f b a) ∙ z)) in
+    out .lies z (slot .h) (slot .q) (slot .g) (slot .m) (slot .channel) (slot .sequence) (slot .group) (slot .unit) (slot .carries)
+    ∙ sym (out′ .lies z′ (slot .h) (slot .q) (slot .g) (slot .m) (slot .channel) (slot .sequence) (slot .group) (slot .unit) (slot .carries)))
+
+module _ {k : ℕ} {f : List ℕ} {r : TimeAnswer} (read : TimeRead k f r) where
+  time-out : ReadOut k f 1 [] 0 (record {
+    check = check-frame-one k f .outcome;
+    audio = read-audio-one k f 1 [] .outcome .0;
+    samples = read-audio-one k f 1 [] .outcome .1;
+    number = macroblock-number-one k f 0 .outcome;
+    part = macroblock-one k f 0 .outcome;
+    time = r;
+  })
+  time-out = reads.reads-out (record {
+    check = check-frame-one k f .meets;
+    audio = read-audio-one k f 1 [] .meets;
+    number = macroblock-number-one k f 0 .meets;
+    part = macroblock-one k f 0 .meets;
+    time = read;
+  })
+
+pub same-time : {k : ℕ} {f g : List ℕ} {r r′ : TimeAnswer} → SameButAudio k f g → TimeRead k f r → TimeRead k g r′ → r ≡ r′
+same-time {k} {f} {g} {r} {r′} s a a′ =
+    alike (reads.time-answers k f) (reads.time-answers k g) (time-gives s) a a′ (λ z z′.
+    let rows = first-rows (subst (timeTable k f) z (reads.time-answers k f .numbered r a)) in
+    let some = some-sequence k (rows .0) in
+    let out = time-out a in
+    let out′ = time-out a′ in
+    let first = low-same s 0 0 1 31 (omega arith) some (omega arith) (omega arith) in
+    let bytes : (i m : ℕ) → i + m ≤ 80 → bytesAt (sequences k) g 0 0 1 i m ≡ bytesAt (sequences k) f 0 0 1 i m =
+    λ i m h. bytes-same s (rows .1) 0 0 1 i m (omega arith) some (omega arith) h (low-section 1 (omega arith)) in
+    let time : r .time ≡ r′ .time = out .time z ∙ rw (first, bytes 32 3 (omega arith)) at (sym (out′ .time z′)) in
+    let group : r .group ≡ r′ .group = out .group z ∙ rw (bytes 39 4 (omega arith)) at (sym (out′ .group z′)) in
+    λ i. record { number = (z ∙ sym z′) i; time = time i; group = group i })
+
+-- ---- what is refuted
+
+-- a row that does not give 0 is past
+past : {number : ℕ} {Holds Not Rest : Type 0} → number ≢ 0 → ((0 ≡ number) × Holds) ⊎ (Not × Rest) → Rest
+past some = ⊎-elim (λ h. absurd (some (sym (h .0)))) (λ p. p .1)
+
+-- a channel of which one AS is marked and another is not is not read
+pub some-marked : {k : ℕ} {f : List ℕ} {c : ℕ} {samples heard : List ℤ} {r : AudioAnswer} → AudioRead k f c samples r heard → (i j : ℕ) → i < sequences k / 2
+    → j < sequences k / 2 → modeSaid (sequences k) f (soundChannel c) (soundFirst (sequences k) c + i) ≡ 0xF
+    → modeSaid (sequences k) f (soundChannel c) (soundFirst (sequences k) c + j) ≢ 0xF → r .number ≢ 0
+some-marked {k} {f} {c} {samples} {heard} {r} read i j hi hj mark d z =
+    let given : audioTable k f c (length samples) 0 = subst (audioTable k f c (length samples)) z (reads.audio-answers k f c samples .numbered (r, heard) read) in
+    let four = past (λ e. omega (arith, e)) (past (λ e. omega (arith, e)) (past (λ e. omega (arith, e)) (past (λ e. omega (arith, e)) given))) in
+    let checks = past (λ e. omega (arith, e)) (past (λ e. omega (arith, e)) (⊎-elim (λ a. absurd (a .some refl)) (λ p. p .1) four)) in
+    let rest = past (λ e. omega (arith, e)) (past (λ e. omega (arith, e)) checks) in
+    ⊎-elim
+    (λ h. let e : _≡_ {A = ℕ} 0 25 = h .0 in omega (arith, e))
+    (λ p. p .0 25 (refl, inr (record { r = i; r′ = j; rank = hi; rank′ = hj; differ = λ e. d (sym e ∙ mark) })))
+    rest
+
+-- nor are the words of a marked channel handed out
+pub handed-out : (k : ℕ) → k < 4 → (count : ℕ) → OwnCount k count → (c t : ℕ) → 0 < c → c < 9 → t < count → {frame f g : List ℕ} {samples heard : List ℤ}
+    {o : AudioAnswer} → Wrote k (tone k count 5) frame 0 f → Marks k f c g → length samples ≡ positions k → AudioRead k g c samples o heard
+    → getD heard t (pos 0) ≡ pos 5 → ⊥
+handed-out k below count own c t c1 c8 ht {frame} {f} {g} {samples} {heard} wrote m room read e =
+    known-system k below (λ y known.
+    let first : 0 < macroblocks k = omega (arith, macroblocks-some y, columns k y known .macroblocks-is) in
+    let one = read-audio-one k f c samples in
+    let back = writes-back wrote .reads-back c samples 0 (beside k f (one .outcome .0) (one .outcome .1)) c1 c8 room first (beside-read (one .meets)) in
+    let lost = comes-back-lost m (one .meets) (ap (λ (a : AudioAnswer). a .number) (back .audio)) read in
+    let all : t < one .outcome .0 .count = omega (arith, ht, ap (λ (a : AudioAnswer). a .count) (back .audio)) in
+    let same : pos 32768 ≡ pos 5 = sym (lost .lost t all) ∙ e in
+    let q : _≡_ {A = ℕ} 32768 5 = cc in
+    omega (arith, q))
