@@ -23,8 +23,8 @@
  *   21   some header's rate is not the system's
  *   22   some video source pack disagrees with the system, where its sequence's header does not call the picture invalid
  *   23   some header calls the sound (audio read), the picture (macroblock read) or the subcode (time code read) invalid
- *   24   an audio source pack of the audio channel breaks the rules (docs/RULES.md, "AAUX")
- *   25   the audio channel's source packs differ in their count
+ *   24   an audio source pack of the audio channel breaks the rules (docs/RULES.md, "AAUX"); audio mode 1111 breaks none
+ *   25   the audio channel's source packs differ in their count or their audio mode
  *   26   the first time code or binary group has a wrong header, or the time code a wrong digit
  *   27   another time code or binary group of the frame differs from the first
  *   31   a sample to be written is outside -32,768 to 32,768
@@ -99,7 +99,8 @@ struct dv100_part dv100_view(uint32_t system, const uint8_t *frame, size_t frame
 uint32_t dv100_check(uint32_t system, const uint8_t *frame, size_t frame_length);
 
 /* The samples of an audio channel, 1 to 8, and their count. The buffer has the system's positions; entries from the count on
- * stay as they were. The frame check is part of the call.
+ * stay as they were. An unrecorded channel, whose source packs all say audio mode 1111, has its count and every sample lost.
+ * The frame check is part of the call.
  * Refusals: 1, 2, 3, 4 (not the system's positions), the frame check's, 23, 24, 25. */
 struct dv100_audio dv100_read_audio(uint32_t system, const uint8_t *frame, size_t frame_length, uint32_t audio_channel,
                                     int32_t *samples, size_t samples_length);

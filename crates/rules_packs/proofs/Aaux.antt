@@ -46,14 +46,12 @@ as-mode = refl
 
 -- ---- modeOk: the audio channel's own, or 1111
 
-pub mode-means : (c mode : ℕ) → modeOk c mode ≡ true → (mode ≡ modeOf c) ⊎ (mode ≡ 0xF)
-mode-means c mode e = by-eq mode (modeOf c) (λ own. inl own) (λ d. inr (eqb-true mode 0xF (rw (ne-eqb mode (modeOf c) d) at e)))
-
-pub mode-when : (c mode : ℕ) → (mode ≡ modeOf c) ⊎ (mode ≡ 0xF) → modeOk c mode ≡ true
-mode-when c mode =
-    ⊎-elim
-    (λ own. rw (eq-eqb mode (modeOf c) own) refl)
-    (λ mark. by-eq mode (modeOf c) (λ own. rw (eq-eqb mode (modeOf c) own) refl) (λ d. rw (ne-eqb mode (modeOf c) d) (eq-eqb mode 0xF mark)))
+pub mode-is : (c mode : ℕ) → (modeOk c mode ≡ true → (mode ≡ modeOf c) ⊎ (mode ≡ 0xF)) × ((mode ≡ modeOf c) ⊎ (mode ≡ 0xF) → modeOk c mode ≡ true)
+mode-is c mode =
+    let own : mode ≡ modeOf c → modeOk c mode ≡ true = λ e. rw (eq-eqb mode (modeOf c) e) refl in (
+      λ e. by-eq mode (modeOf c) (λ o. inl o) (λ d. inr (eqb-true mode 0xF (rw (ne-eqb mode (modeOf c) d) at e))),
+      ⊎-elim own (λ mark. by-eq mode (modeOf c) own (λ d. rw (ne-eqb mode (modeOf c) d) (eq-eqb mode 0xF mark))),
+    )
 
 -- ---- asPack, asOk, countIn, modeIn
 
@@ -84,7 +82,7 @@ module _ (y : System) (c : ℕ) (p : Pack) where
         lf = ltb-true (p .pc1) 128 (seven .0);
         count = six .0;
         chn = ltb-true (p .pc2) 32 (five .0);
-        mode = mode-means c (modeIn p) (four .0);
+        mode = mode-is c (modeIn p) .0 (four .0);
         rate = eqb-true (p .pc3 / 32 % 2) (rateOf y) (three .0);
         stype = eqb-true (p .pc3 % 32) 3 (two .0);
         smpQu = eqb-true (p .pc4 % 64) 0 (two .1);
@@ -97,7 +95,7 @@ module _ (y : System) (c : ℕ) (p : Pack) where
         lt-ltb (p .pc1) 128 (h .lf),
         h .count,
         lt-ltb (p .pc2) 32 (h .chn),
-        mode-when c (modeIn p) (h .mode),
+        mode-is c (modeIn p) .1 (h .mode),
         eq-eqb (p .pc3 / 32 % 2) (rateOf y) (h .rate),
         eq-eqb (p .pc3 % 32) 3 (h .stype),
       )
