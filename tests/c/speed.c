@@ -23,9 +23,10 @@ struct measured {
 
 static const struct measured systems[] = {{0, 480000, 1620, 5400, 1602}, {1, 576000, 1944, 6075, 1920}};
 
-/* What the calls are lent. The frame is one that was written; the damaged one has some blocks zeroed, the blank one all. */
+/* What the calls are lent. The frame is one that was written; the damaged one has some blocks zeroed, the blank one all; in the
+ * marked one audio channel 4 has mode 1111. */
 static const struct measured *own;
-static uint8_t frame[LONGEST], damaged[LONGEST], blank[LONGEST], target[LONGEST], macroblocks[77 * 6075];
+static uint8_t frame[LONGEST], damaged[LONGEST], blank[LONGEST], marked[LONGEST], target[LONGEST], macroblocks[77 * 6075];
 static int32_t sound[8 * 1920], samples[8 * 1944];
 static uint32_t list[4 * ROOM];
 static const uint8_t binary_group[4] = {1, 2, 3, 4}, time_code[4] = {0x52, 0x34, 0x45, 0x12};
@@ -82,6 +83,10 @@ static void take_time(struct dv100_time answer)
     {                                                                                                                             \
         take_audio(side##_read_audio(own->system, frame, own->frame_length, 4, samples, own->positions));                          \
     }                                                                                                                             \
+    static void side##_read_audio_marked_row(void)                                                                                \
+    {                                                                                                                             \
+        take_audio(side##_read_audio(own->system, marked, own->frame_length, 4, samples, own->positions));                        \
+    }                                                                                                                             \
     static void side##_read_audio_refused_row(void)                                                                               \
     {                                                                                                                             \
         take_audio(side##_read_audio(own->system, frame, own->frame_length, 9, samples, own->positions));                         \
@@ -126,6 +131,7 @@ static const struct {
     ROW("check, block 7 damaged", check_damaged),
     ROW("check, all blocks zeroed", check_blank),
     ROW("read_audio", read_audio),
+    ROW("read_audio, channel marked 1111", read_audio_marked),
     ROW("read_audio, channel 9 refused", read_audio_refused),
     ROW("macroblock", macroblock),
     ROW("macroblock, number 6,075 refused", macroblock_refused),
@@ -160,6 +166,10 @@ static void set_row(size_t row)
     memcpy(damaged, target, sizeof damaged);
     for (size_t block = 0; block < 28; block++)
         memset(damaged + (7 + 211 * block) * BLOCK, 0, BLOCK);
+    memcpy(marked, target, sizeof marked);
+    size_t sequences = own->frame_length / SEQUENCE / 4; /* audio channel 4 has the second half of DIF channel 1 */
+    for (size_t sequence = sequences / 2; sequence < sequences; sequence++)
+        marked[(sequences + sequence) * SEQUENCE + (sequence % 2 == 0 ? 54 : 6) * BLOCK + 5] |= 0x0F;
     if (plain_check(own->system, frame, own->frame_length) != 0) {
         fprintf(stderr, "speed: the frame was not written\n");
         exit(2);
