@@ -3,6 +3,7 @@ pub mod ReadingBack
 pub mod WritingBack
 pub mod Salvaging
 pub mod Deciding
+pub mod Together
 pub mod Worthless
 pub mod Unrecorded
 pub mod Demands

@@ -1,7 +1,7 @@
 -- The workshop of "Unrecorded channels come back as faults": what the calls answer of two frames that differ in audio blocks alone, by what the promises
 -- say of each. Assumes nothing.
 use mathlib.Core.Path.{_≡_, refl, sym, ap, _∙_, subst}
-use mathlib.Core.List.{List, []}
+use mathlib.Core.List.{List}
 use mathlib.Core.Logic.{_⊎_, inr, ⊎-elim, _≢_}
 use Prim.Native.Nat.{ℕ, _+_, _*_, _/_, _%_, _≤_, _<_}
 use native.Mathlib.Omega.{arith}
@@ -18,7 +18,7 @@ use Rattle.paper.specs.Paper.{sequences, positions, macroblocks, soundChannel, 
 use Rattle.paper.specs.Bytes.{OwnCount}
 use Rattle.promises.specs.Refusals.{Table, _if_, _else_, asByte, audioTable, macroblockTable, timeTable}
 use Rattle.promises.specs.Demand1.{Answers}
-use Rattle.promises.specs.Demand2.{Strict, ReadOut, tone}
+use Rattle.promises.specs.Demand2.{tone}
 use Rattle.promises.specs.Unrecorded.{Marks, ComesBackLost, SameButAudio, SameButAaux}
 use Rattle.promises.proofs.Apart.{Gives, check-gives, survey-gives, salvage-gives, some-sequence, macroblock-gives, time-gives, low-same, bytes-same, slot-section, low-section, audio-gives, sound-gives, SameAs, word-same, listed-same, salvage-out-same}
 use Rattle.promises.proofs.Unrecorded.{marks-aaux, marks-as, marked-gives, marked-count, marked-mode}
@@ -34,16 +34,14 @@ use Rattle.rules_reads.specs.Audio.{audioNumber, AudioRead}
 use Rattle.rules_reads.specs.Macroblock.{MacroblockNumbered, MacroblockRead, MacroblockLies}
 use Rattle.rules_reads.specs.Time.{TimeRead}
 use Rattle.rules_picture.proofs.Slots.{slot-of}
-use Rattle.rules_reads.specs.Strict.{StrictlyRead}
 use Rattle.rules_writes.specs.Write.{Wrote}
 use Rattle.kept.proofs.Deciding.{read-below}
 use Rattle.kept.proofs.WritingBack.{writes-back}
+use Rattle.kept.proofs.Together.{audio-beside, audio-out, picture-out, time-out}
 use Rattle.rules_reads.proofs.Headlines as reads
-use Rattle.rules_reads.proofs.Check.{check-frame-one}
 use Rattle.rules_reads.proofs.Audio.{read-audio-one, audio-count, audio-zero, audio-taken}
 use Rattle.rules_reads.proofs.Answering.{audio-number}
-use Rattle.rules_reads.proofs.Macroblock.{macroblock-number-one, macroblock-one, macroblock-lies-number}
-use Rattle.rules_reads.proofs.Time.{read-time-one}
+use Rattle.rules_reads.proofs.Macroblock.{macroblock-lies-number}
 
 -- ---- one call on two inputs: where the table of the one gives what that of the other gives, a refusal is the same
 
@@ -69,30 +67,7 @@ first-rows {k} {size} =
 
 -- ---- read_audio
 
--- an audio read beside the other reads of its frame
-abbrev beside : ℕ → List ℕ → AudioAnswer → List ℤ → Strict
-beside k f r heard = record {
-  check = check-frame-one k f .outcome;
-  audio = r;
-  samples = heard;
-  number = macroblock-number-one k f 0 .outcome;
-  part = macroblock-one k f 0 .outcome;
-  time = read-time-one k f .outcome;
-}
-
 module _ {k : ℕ} {f : List ℕ} {c : ℕ} {samples heard : List ℤ} {r : AudioAnswer} (read : AudioRead k f c samples r heard) where
-  beside-read : StrictlyRead k f c samples 0 (beside k f r heard)
-  beside-read = record {
-    check = check-frame-one k f .meets;
-    audio = read;
-    number = macroblock-number-one k f 0 .meets;
-    part = macroblock-one k f 0 .meets;
-    time = read-time-one k f .meets;
-  }
-
-  audio-out : ReadOut k f c samples 0 (beside k f r heard)
-  audio-out = reads.reads-out beside-read
-
   module _ (z : r .number ≡ 0) where
     -- the system is known
     read-system : k < 4
@@ -185,23 +160,6 @@ same-salvage {k} {f} {g} {samples} {samples₁} {samples₂} {list} {list₁} {l
     λ i. (one .0 i, heard i, one .1 i)) in
     (ap (λ (o : Survey × List ℤ × List ℕ). o .0) e, ap (λ (o : Survey × List ℤ × List ℕ). o .1) e, ap (λ (o : Survey × List ℤ × List ℕ). o .2) e)
 
-module _ {k : ℕ} {f : List ℕ} {b number : ℕ} {part : List ℕ} (numbered : MacroblockNumbered k f b number) (read : MacroblockRead k f b part) where
-  picture-out : ReadOut k f 1 [] b (record {
-    check = check-frame-one k f .outcome;
-    audio = read-audio-one k f 1 [] .outcome .0;
-    samples = read-audio-one k f 1 [] .outcome .1;
-    number = number;
-    part = part;
-    time = read-time-one k f .outcome;
-  })
-  picture-out = reads.reads-out (record {
-    check = check-frame-one k f .meets;
-    audio = read-audio-one k f 1 [] .meets;
-    number = numbered;
-    part = read;
-    time = read-time-one k f .meets;
-  })
-
 pub same-macroblock : {k : ℕ} {f g : List ℕ} {b number number′ : ℕ} {part part′ : List ℕ} → SameButAudio k f g → MacroblockNumbered k f b number → MacroblockRead k f b part
     → MacroblockNumbered k g b number′ → MacroblockRead k g b part′ → (number ≡ number′) × (part ≡ part′)
 same-macroblock {k} {f} {g} {b} {number} {number′} {part} {part′} s n a n′ a′ =
@@ -224,23 +182,6 @@ same-macroblock-at {k} {f} {g} {b} s a a′ =
     let slot = slot-of k b (read-below k f b (sym (macroblock-lies-number k f b a) ∙ z)) in
     out .lies z (slot .h) (slot .q) (slot .g) (slot .m) (slot .channel) (slot .sequence) (slot .group) (slot .unit) (slot .carries)
     ∙ sym (out′ .lies z′ (slot .h) (slot .q) (slot .g) (slot .m) (slot .channel) (slot .sequence) (slot .group) (slot .unit) (slot .carries)))
-
-module _ {k : ℕ} {f : List ℕ} {r : TimeAnswer} (read : TimeRead k f r) where
-  time-out : ReadOut k f 1 [] 0 (record {
-    check = check-frame-one k f .outcome;
-    audio = read-audio-one k f 1 [] .outcome .0;
-    samples = read-audio-one k f 1 [] .outcome .1;
-    number = macroblock-number-one k f 0 .outcome;
-    part = macroblock-one k f 0 .outcome;
-    time = r;
-  })
-  time-out = reads.reads-out (record {
-    check = check-frame-one k f .meets;
-    audio = read-audio-one k f 1 [] .meets;
-    number = macroblock-number-one k f 0 .meets;
-    part = macroblock-one k f 0 .meets;
-    time = read;
-  })
 
 pub same-time : {k : ℕ} {f g : List ℕ} {r r′ : TimeAnswer} → SameButAudio k f g → TimeRead k f r → TimeRead k g r′ → r ≡ r′
 same-time {k} {f} {g} {r} {r′} s a a′ =
@@ -284,7 +225,7 @@ handed-out k below count own c t c1 c8 ht {frame} {f} {g} {samples} {heard} wrot
     known-system k below (λ y known.
     let first : 0 < macroblocks k = omega (arith, macroblocks-some y, columns k y known .macroblocks-is) in
     let one = read-audio-one k f c samples in
-    let back = writes-back wrote .reads-back c samples 0 (beside k f (one .outcome .0) (one .outcome .1)) c1 c8 room first (beside-read (one .meets)) in
+    let back = writes-back wrote .reads-back c samples 0 _ c1 c8 room first (audio-beside (one .meets)) in
     let lost = comes-back-lost m (one .meets) (ap (λ (a : AudioAnswer). a .number) (back .audio)) read in
     let all : t < one .outcome .0 .count = omega (arith, ht, ap (λ (a : AudioAnswer). a .count) (back .audio)) in
     let same : pos 32768 ≡ pos 5 = sym (lost .lost t all) ∙ e in

@@ -18,18 +18,15 @@ use Rattle.rules_writes.specs.Write.{Wrote, Takes}
 use Rattle.paper.specs.Paper.{sequences, positions, macroblocks, back}
 use Rattle.paper.specs.Bytes.{OwnCount}
 use Rattle.promises.specs.Demand2.{Strict, given, ReadsBack, tone}
-use Rattle.rules_reads.specs.Strict.{StrictlyRead}
 use Rattle.promises.specs.Demand3.{SampleSalvaged}
 use Rattle.rules_format.proofs.Systems.{half-cases, count-turns, macroblocks-some}
 use Rattle.rules_format.proofs.Samples.{all-pass}
 use Rattle.rules_format.proofs.Sound.{half-some}
-use Rattle.rules_reads.proofs.Check.{check-frame-one}
 use Rattle.rules_reads.proofs.Audio.{read-audio-one}
-use Rattle.rules_reads.proofs.Macroblock.{macroblock-number-one, macroblock-one}
-use Rattle.rules_reads.proofs.Time.{read-time-one}
 use Rattle.rules_writes.proofs.Write.{write-taken}
 use Rattle.rules_format.proofs.Paper.{columns, known-system}
 use Rattle.rules_packs.proofs.Judged.{own-when}
+use Rattle.kept.proofs.Together.{audio-beside}
 use Rattle.kept.proofs.WritingBack.{writes-back}
 
 -- ---- tone: the writer takes it
@@ -79,27 +76,7 @@ module _ (k count c t : ℕ) (c1 : 0 < c) (c8 : c < 9) (below : t < count) where
       let q : _≡_ {A = ℕ} 32768 5 = cc in
       omega arith
 
--- ---- the strict reads answer of every frame
-
-strict : (k : ℕ) (f : List ℕ) (c : ℕ) (samples : List ℤ) (b : ℕ) → Strict
-strict k f c samples b = record {
-  check = check-frame-one k f .outcome;
-  audio = read-audio-one k f c samples .outcome .0;
-  samples = read-audio-one k f c samples .outcome .1;
-  number = macroblock-number-one k f b .outcome;
-  part = macroblock-one k f b .outcome;
-  time = read-time-one k f .outcome;
-}
-
-strictly : (k : ℕ) (f : List ℕ) (c : ℕ) (samples : List ℤ) (b : ℕ) → StrictlyRead k f c samples b (strict k f c samples b)
-unfolding strict
-strictly k f c samples b = record {
-  check = check-frame-one k f .meets;
-  audio = read-audio-one k f c samples .meets;
-  number = macroblock-number-one k f b .meets;
-  part = macroblock-one k f b .meets;
-  time = read-time-one k f .meets;
-}
+-- ---- one for two
 
 module _ (k : ℕ) (below : k < 4) (count : ℕ) (own : OwnCount k count) where
   -- the second demand stops one answer for two inputs
@@ -118,7 +95,7 @@ module _ (k : ℕ) (below : k < 4) (count : ℕ) (own : OwnCount k count) where
       let samples : List ℤ = replicate (positions k) (pos 0) in
       let room : length samples ≡ positions k = length-replicate (positions k) (pos 0) in
       let first : 0 < macroblocks k = omega (arith, macroblocks-some y, columns k y known .macroblocks-is) in
-      let read = strictly k f 1 samples 0 in
+      let read = audio-beside (read-audio-one k f 1 samples .meets) in
       one-for-two 1 (omega arith) (omega arith)
-      (writes-back w .reads-back 1 samples 0 (strict k f 1 samples 0) (omega arith) (omega arith) room first read)
-      (writes-back w′ .reads-back 1 samples 0 (strict k f 1 samples 0) (omega arith) (omega arith) room first read))
+      (writes-back w .reads-back 1 samples 0 _ (omega arith) (omega arith) room first read)
+      (writes-back w′ .reads-back 1 samples 0 _ (omega arith) (omega arith) room first read))
