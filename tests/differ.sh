@@ -1,6 +1,7 @@
 #!/bin/bash
 # differ.sh [CASES [SEED]]: the library's ten calls beside tests/c/plain.c, an implementation of its own in C, on written,
-# damaged and rubbish frames. A difference fails, and a refusal number of a call, or a read of a channel marked 1111, that no case met.
+# damaged and rubbish frames. A difference fails; so does a refusal number of a call that no case met, or 0, 24 or 25 of a channel
+# with an AS of mode 1111.
 set -u
 . "$(dirname "$0")/c/env.sh"
 work=$(mktemp -d)

@@ -1,6 +1,6 @@
 /* Lays the library beside an independent decoder (paper.h): frames written, frames damaged, the known places of the scope
- * paper, document 01, the printed rows of the Recommendation's tables, and audio channels marked as invalid. A line says
- * "agree", or "DIFFERS" and where. */
+ * paper, document 01, the printed rows of the Recommendation's tables, and audio channels marked 1111. A line says "agree", or
+ * "DIFFERS" and where. */
 #include "dv100.h"
 #include "paper.h"
 #include "printed.h"
@@ -1630,20 +1630,20 @@ static void compare_every_marked_size(struct trial *trial)
 }
 
 /* What salvage and survey give of a frame. */
-struct given {
+struct answers {
     struct dv100_survey salvage, survey;
     int32_t samples[MOST_SOUND];
     uint32_t salvage_list[RECORD * MOST_BLOCKS], survey_list[RECORD * MOST_BLOCKS];
 };
 
-static void give(const struct trial *trial, struct given *given)
+static void answer(const struct trial *trial, struct answers *answers)
 {
-    memset(given, 0, sizeof *given);
-    given->salvage = dv100_salvage(trial->system, trial->frame, trial->frame_bytes, given->samples,
-                                   PAPER_AUDIO_CHANNELS * trial->map->system->samples, given->salvage_list,
-                                   RECORD * MOST_BLOCKS);
-    given->survey =
-        dv100_survey(trial->system, trial->frame, trial->frame_bytes, given->survey_list, RECORD * MOST_BLOCKS);
+    memset(answers, 0, sizeof *answers);
+    answers->salvage = dv100_salvage(trial->system, trial->frame, trial->frame_bytes, answers->samples,
+                                     PAPER_AUDIO_CHANNELS * trial->map->system->samples, answers->salvage_list,
+                                     RECORD * MOST_BLOCKS);
+    answers->survey =
+        dv100_survey(trial->system, trial->frame, trial->frame_bytes, answers->survey_list, RECORD * MOST_BLOCKS);
 }
 
 /* The five bytes of every pack of AAUX at random, in whatever block stands there. */
@@ -1657,27 +1657,27 @@ static void randomize_aaux(struct trial *trial)
 }
 
 /* Salvage and survey of a frame, then with every AS marked, then with its AAUX at random. */
-static void compare_unmarked(struct trial *trial, struct tally *tally, const char *pattern)
+static void compare_unaffected(struct trial *trial, struct tally *tally, const char *pattern)
 {
-    static struct given before, after;
-    give(trial, &before);
+    static struct answers before, after;
+    answer(trial, &before);
     mark_all(trial);
-    give(trial, &after);
+    answer(trial, &after);
     compare(tally, memcmp(&before, &after, sizeof before) == 0, "%s, marked", pattern);
     randomize_aaux(trial);
-    give(trial, &after);
+    answer(trial, &after);
     compare(tally, memcmp(&before, &after, sizeof before) == 0, "%s, AAUX at random", pattern);
 }
 
-static void compare_all_unmarked(struct trial *trial)
+static void compare_all_unaffected(struct trial *trial)
 {
     struct tally tally = tally_of_trial(trial, "frames", "marked, dv100_salvage and dv100_survey as unmarked");
     write_undamaged(trial);
-    compare_unmarked(trial, &tally, "undamaged");
+    compare_unaffected(trial, &tally, "undamaged");
     for (unsigned at = 0; at < sizeof block_patterns / sizeof block_patterns[0]; at++) {
         memcpy(trial->frame, undamaged, trial->frame_bytes);
         block_patterns[at].damage(trial);
-        compare_unmarked(trial, &tally, block_patterns[at].name);
+        compare_unaffected(trial, &tally, block_patterns[at].name);
     }
     print_tally(&tally);
 }
@@ -1718,7 +1718,7 @@ static void mark_and_compare(struct trial *trial, unsigned system, unsigned coun
     mark_with_every_cause(trial);
     compare_every_mode(trial);
     compare_every_marked_size(trial);
-    compare_all_unmarked(trial);
+    compare_all_unaffected(trial);
 }
 
 /* ---- */

@@ -616,7 +616,7 @@ static void change_mode(struct scene *scene)
     set_mode(scene, below(16));
 }
 
-/* Often the other audio channels' own. */
+/* Often a mode that audio channels have, its own or the others'. */
 static void change_modes(struct scene *scene)
 {
     set_modes(scene, percent(50) ? below(2) : below(16));

@@ -340,7 +340,7 @@ static bool as_ok(const struct system *own, const uint8_t *as, uint32_t mode)
            (as[4] & 0x3F) == 0;
 }
 
-/* What the AS packs of an audio channel say: the number (24, 25 or 0), the count, and whether it was recorded. */
+/* What comes of the AS packs of an audio channel: the number (24, 25 or 0), the count, and whether it was recorded. */
 struct source {
     uint32_t number, count;
     bool recorded;

@@ -1,7 +1,7 @@
 -- The promises are kept, of any answer that the contracts of the public calls allow. Each theorem cites its workshop; what it says is in crate `promises`
--- (`Demand1`, `Demand2`, `Demand3`; `Refusals`, `Form`), in the words of crate `paper`. Assumes nothing.
+-- (`Demand1`, `Demand2`, `Demand3`, `Unrecorded`; `Refusals`, `Form`), in the words of crate `paper`. Assumes nothing.
 use mathlib.Core.Path.{_≡_, refl, sym, _∙_}
-use mathlib.Core.Bool.{true, false}
+use mathlib.Core.Bool.{Bool, true, false}
 use mathlib.Core.List.{List, [], _∷_, _++_}
 use mathlib.Core.Logic.{_≢_}
 use Prim.Native.Nat.{ℕ, _+_, _*_, _/_, _<_}
@@ -39,7 +39,7 @@ use Rattle.kept.specs.EveryCall.{EveryCall}
 use Rattle.promises.specs.Demand2.{IdOut, ViewOut, MacroblockOut, Strict, ReadOut, GoesThrough, LaidOut, ReadsBack, WritesBack, tone}
 use Rattle.rules_reads.specs.Strict.{StrictlyRead}
 use Rattle.promises.specs.Demand3.{SampleSalvaged, Listed, Salvages}
-use Rattle.promises.specs.Unrecorded.{Marks, ComesBackLost, SameButAudio, SameButAaux}
+use Rattle.promises.specs.Unrecorded.{Marks, every, ComesBackLost, SameButAudio, SameButAaux}
 use Rattle.promises.proofs.Unrecorded.{marks-aaux}
 use Rattle.kept.proofs.Deciding.{ids-decided, views-decided, macroblocks-decided, reads-decided}
 use Rattle.kept.proofs.WritingBack.{writes-back, strict-decided, frame-decided}
@@ -186,13 +186,19 @@ pub not-coasting : {n first m : ℕ} {bytes list list′ : List ℕ} {r : Survey
     → streamFault n bytes j (first + j) ≡ 0
 not-coasting = promised.not-coasting
 
--- ---- unrecorded channels: g is f with audio channel c marked
+-- ---- unrecorded channels: g is f with AS packs of audio channel c marked
 
-module _ {k : ℕ} {f : List ℕ} {c : ℕ} {g : List ℕ} (marks : Marks k f c g) where
-  -- a channel that is read, a, comes back with its count and every sample lost
-  pub unrecorded : {samples heard heard′ : List ℤ} {a o : AudioAnswer} → AudioRead k f c samples a heard → a .number ≡ 0 → AudioRead k g c samples o heard′
-      → ComesBackLost a samples o heard′
-  unrecorded = comes-back-lost marks
+-- all of them: where the channel is read of f, it comes back of g with the same count and every sample lost
+pub unrecorded : {k : ℕ} {f : List ℕ} {c : ℕ} {g : List ℕ} → Marks k f c every g → {samples heard heard′ : List ℤ} {a o : AudioAnswer}
+    → AudioRead k f c samples a heard → a .number ≡ 0 → AudioRead k g c samples o heard′ → ComesBackLost a samples o heard′
+unrecorded marks = comes-back-lost marks
+
+module _ {k : ℕ} {f : List ℕ} {c : ℕ} {which : ℕ → Bool} {g : List ℕ} (marks : Marks k f c which g) where
+  -- one of them and not another: 25
+  pub unrecorded-some : (i j : ℕ) → i < sequences k / 2 → j < sequences k / 2 → which i ≡ true → which j ≡ false
+      → modeSaid (sequences k) f (soundChannel c) (soundFirst (sequences k) c + j) ≢ 0xF → {samples heard heard′ : List ℤ} {a o : AudioAnswer}
+      → AudioRead k f c samples a heard → a .number ≡ 0 → AudioRead k g c samples o heard′ → o .number ≡ 25
+  unrecorded-some = some-marked marks
 
   -- every other channel reads as before
   pub unrecorded-others : (c′ : ℕ) → 0 < c → 0 < c′ → c′ < 9 → c′ ≢ c → {samples heard heard′ : List ℤ} {o o′ : AudioAnswer} → AudioRead k f c′ samples o heard
@@ -208,7 +214,7 @@ pub unrecorded-salvage : {k : ℕ} {f g : List ℕ} → SameButAaux k f g → {s
     → Salvaged k f samples list r samples₁ list₁ → Salvaged k g samples list r′ samples₂ list₂ → (r ≡ r′) × (samples₁ ≡ samples₂) × (list₁ ≡ list₂)
 unrecorded-salvage same = same-salvage same
 
--- and no other read or survey looks behind the ID of an audio block
+-- and frame check, survey, macroblock and time code reads do not look behind the ID of an audio block
 module _ {k : ℕ} {f g : List ℕ} (same : SameButAudio k f g) where
   pub audio-apart-check : {r r′ : ℕ} → Checked k f r → Checked k g r′ → r ≡ r′
   audio-apart-check = same-check same
@@ -243,16 +249,11 @@ module _ (k : ℕ) (below : k < 4) (count : ℕ) (own : OwnCount k count) where
   pub not-empty-writer : {frame : List ℕ} → Wrote k (tone k count 5) frame 0 frame → Wrote k (tone k count 6) frame 0 frame → ⊥
   not-empty-writer = frame-for-two k below count own
 
-  -- a marked channel whose words are handed out: the writer's level 5 is in none of its entries below the count
-  pub not-handed-out : (c t : ℕ) → 0 < c → c < 9 → t < count → {frame f g : List ℕ} {samples heard : List ℤ} {o : AudioAnswer}
-      → Wrote k (tone k count 5) frame 0 f → Marks k f c g → length samples ≡ positions k → AudioRead k g c samples o heard → getD heard t (pos 0) ≡ pos 5 → ⊥
+  -- a marked channel whose words are handed out, or silence: below the count no entry is a level
+  pub not-handed-out : (c t level : ℕ) → 0 < c → c < 9 → t < count → level < 32768 → {frame f g : List ℕ} {samples heard : List ℤ} {o : AudioAnswer}
+      → Wrote k (tone k count 5) frame 0 f → Marks k f c every g → length samples ≡ positions k → AudioRead k g c samples o heard
+      → getD heard t (pos 0) ≡ pos level → ⊥
   not-handed-out = handed-out k below count own
 
   pub not-all-lost : (c t : ℕ) → 0 < c → c < 9 → t < count → {f : List ℕ} → SampleSalvaged (sequences k) (tone k count 5) f f c t (pos 32768) → ⊥
   not-all-lost c t c1 c8 ht = all-lost k count c t c1 c8 ht
-
--- a channel of which one AS is marked and another is not is not read
-pub not-some-marked : {k : ℕ} {f : List ℕ} {c : ℕ} {samples heard : List ℤ} {o : AudioAnswer} → AudioRead k f c samples o heard → (i j : ℕ)
-    → i < sequences k / 2 → j < sequences k / 2 → modeSaid (sequences k) f (soundChannel c) (soundFirst (sequences k) c + i) ≡ 0xF
-    → modeSaid (sequences k) f (soundChannel c) (soundFirst (sequences k) c + j) ≢ 0xF → o .number ≢ 0
-not-some-marked = some-marked

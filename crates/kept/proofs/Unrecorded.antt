@@ -1,9 +1,10 @@
 -- The workshop of "Unrecorded channels come back as faults": what the calls answer of two frames that differ in audio blocks alone, by what the promises
 -- say of each. Assumes nothing.
 use mathlib.Core.Path.{_≡_, refl, sym, ap, _∙_, subst}
+use mathlib.Core.Bool.{Bool, true, false}
 use mathlib.Core.List.{List}
-use mathlib.Core.Logic.{_⊎_, inr, ⊎-elim, _≢_}
-use Prim.Native.Nat.{ℕ, _+_, _*_, _/_, _%_, _≤_, _<_}
+use mathlib.Core.Logic.{_⊎_, ⊎-elim, _≢_}
+use Prim.Native.Nat.{ℕ, _+_, _*_, _/_, _≤_, _<_}
 use native.Mathlib.Omega.{arith}
 use lib.IntN.{ℤ, pos}
 use lib.ListN.{length, getD}
@@ -14,17 +15,18 @@ use Rattle.paper.specs.declared.Survey.{Survey}
 use Rattle.paper.specs.declared.Part.{Part}
 use Rattle.paper.specs.declared.AudioAnswer.{AudioAnswer}
 use Rattle.paper.specs.declared.TimeAnswer.{TimeAnswer}
-use Rattle.paper.specs.Paper.{sequences, positions, macroblocks, soundChannel, soundFirst, sampleBy, countBy, modeSaid, slotPlace, bytesAt}
+use Rattle.paper.specs.Paper.{sequences, positions, macroblocks, soundChannel, soundFirst, sampleBy, modeSaid, slotPlace, bytesAt}
 use Rattle.paper.specs.Bytes.{OwnCount}
-use Rattle.promises.specs.Refusals.{Table, _if_, _else_, asByte, audioTable, macroblockTable, timeTable}
+use Rattle.promises.specs.Refusals.{Table, _if_, _else_, audioTable, macroblockTable, timeTable}
 use Rattle.promises.specs.Demand1.{Answers}
 use Rattle.promises.specs.Demand2.{tone}
-use Rattle.promises.specs.Unrecorded.{Marks, ComesBackLost, SameButAudio, SameButAaux}
-use Rattle.promises.proofs.Apart.{Gives, check-gives, survey-gives, salvage-gives, some-sequence, macroblock-gives, time-gives, low-same, bytes-same, slot-section, low-section, audio-gives, sound-gives, SameAs, word-same, listed-same, salvage-out-same}
-use Rattle.promises.proofs.Unrecorded.{marks-aaux, marks-as, marked-gives, marked-count, marked-mode}
+use Rattle.promises.specs.Unrecorded.{Marks, every, ComesBackLost, SameButAudio, SameButAaux}
+use Rattle.promises.proofs.Apart.{Gives, SameAs, survey-gives, salvage-gives, check-gives, macroblock-gives, time-gives, audio-gives, sound-gives, count-same, mode-same}
+use Rattle.promises.proofs.Apart.{some-sequence, low-section, low-same, bytes-same, slot-section, word-same, listed-same, salvage-out-same}
+use Rattle.promises.proofs.Unrecorded.{marks-aaux, marks-as, every-leads, some-leads, marked-count, marked-mode}
 use Rattle.promises.proofs.One.{lists-one, listed-one, salvage-out-one}
-use Rattle.rules_format.specs.Systems.{sequencesOf, systemOf}
-use Rattle.rules_format.proofs.Systems.{sequences-cases, macroblocks-some}
+use Rattle.rules_format.specs.Systems.{systemOf}
+use Rattle.rules_format.proofs.Systems.{macroblocks-some}
 use Rattle.rules_format.proofs.Paper.{columns, known-system}
 use Rattle.rules_surveys.specs.Survey.{FrameSurveyed}
 use Rattle.rules_surveys.specs.Salvage.{Salvaged}
@@ -52,18 +54,20 @@ alike {answered = answered} {o = o} {o′ = o′} a a′ gives m m′ zero =
     let same : answered o ≡ answered o′ = a′ .no-other o′ m′ (answered o) (gives .too (a .numbered o m)) in
     by-eq (answered o) 0 (λ z. zero z (sym same ∙ z)) (λ d. a .told o o′ d same (a .refused o m d) (a′ .refused o′ m′ (λ z. d (same ∙ z))))
 
--- where a table gives 0, its first rows do not hold: the system is known, and the frame has its length
-first-rows : {k size : ℕ} {Rest : Type 0} → (1 if (3 < k) else 2 if (size ≢ 48000 * sequences k) else (λ (r : ℕ). Rest)) 0 → (k < 4) × (size ≡ 48000 * sequences k)
-first-rows {k} {size} =
-    ⊎-elim
-    (λ h. let e : _≡_ {A = ℕ} 0 1 = h .0 in absurd (omega (arith, e)))
-    (λ past.
-    ⊎-elim
-    (λ h. let e : _≡_ {A = ℕ} 0 2 = h .0 in absurd (omega (arith, e)))
-    (λ past′. (
-      by-lt k 4 (λ l. l) (λ above. absurd (past .0 1 (refl, above))),
-      by-eq size (48000 * sequences k) (λ e. e) (λ d. absurd (past′ .0 2 (refl, d))),
-    )) (past .1))
+-- where a table gives 0, no row before its last holds: the system is known, and the frame has its length
+past : {number : ℕ} {Holds Rest : Type 0} → number ≢ 0 → ((0 ≡ number) × Holds) ⊎ (((s : ℕ) → (s ≡ number) × Holds → ⊥) × Rest) → (Holds → ⊥) × Rest
+past {number} some = ⊎-elim (λ h. absurd (some (sym (h .0)))) (λ p. ((λ h. p .0 number (refl, h)), p .1))
+
+first-rows : {k size : ℕ} {Rest : Type 0} → (1 if (3 < k) else 2 if (size ≢ 48000 * sequences k) else (λ (r : ℕ). Rest)) 0
+    → (k < 4) × (size ≡ 48000 * sequences k)
+first-rows {k} {size} t =
+    let one = past (λ e. omega (arith, e)) t in
+    let two = past (λ e. omega (arith, e)) (one .1) in
+    (by-lt k 4 (λ l. l) (λ above. absurd (one .0 above)), by-eq size (48000 * sequences k) (λ e. e) (λ d. absurd (two .0 d)))
+
+-- two outcomes that are the same are so in each part
+two-parts : {A B : Type 0} {a a′ : A} {b b′ : B} → _≡_ {A = A × B} (a, b) (a′, b′) → (a ≡ a′) × (b ≡ b′)
+two-parts {A} {B} e = (ap (λ (o : A × B). o .0) e, ap (λ (o : A × B). o .1) e)
 
 -- ---- read_audio
 
@@ -79,19 +83,13 @@ module _ {k : ℕ} {f : List ℕ} {c : ℕ} {samples heard : List ℤ} {r : Audi
         let zero : audioNumber k f c (length samples) ≡ 0 = sym (audio-number k f c samples read) ∙ z in
         omega (arith, ap (λ (a : AudioAnswer). a .count) (audio-taken k f c samples y known zero read .0), audio-count k f c samples y known zero, audio-zero k f c (length samples) y known zero .2, columns k y known .positions-is)
 
-half-some : (k : ℕ) → k < 4 → 0 < sequences k / 2
-half-some k below =
-    known-system k below (λ y known.
-    let is = columns k y known .sequences-is in
-    ⊎-elim (λ (ten : sequencesOf y ≡ 10). omega (arith, ten, is)) (λ (twelve : sequencesOf y ≡ 12). omega (arith, twelve, is)) (sequences-cases y))
-
--- a channel that is read, marked
-pub comes-back-lost : {k : ℕ} {f : List ℕ} {c : ℕ} {g : List ℕ} {samples heard heard′ : List ℤ} {r r′ : AudioAnswer} → Marks k f c g
+-- a channel that is read, with all its AS packs marked
+pub comes-back-lost : {k : ℕ} {f : List ℕ} {c : ℕ} {g : List ℕ} {samples heard heard′ : List ℤ} {r r′ : AudioAnswer} → Marks k f c every g
     → AudioRead k f c samples r heard → r .number ≡ 0 → AudioRead k g c samples r′ heard′ → ComesBackLost r samples r′ heard′
 comes-back-lost {k} {f} {c} {g} {samples} {heard} {heard′} {r} {r′} m read z read′ =
     let given : audioTable k f c (length samples) 0 = subst (audioTable k f c (length samples)) z (reads.audio-answers k f c samples .numbered (r, heard) read) in
-    let zero : r′ .number ≡ 0 = sym (reads.audio-answers k g c samples .no-other (r′, heard′) read′ 0 (marked-gives m .too given)) in
-    let some = half-some k (read-system read z) in
+    let zero : r′ .number ≡ 0 = sym (reads.audio-answers k g c samples .no-other (r′, heard′) read′ 0 (every-leads m .to given)) in
+    let some = some-sequence k (read-system read z) .1 in
     let out = audio-out read′ in
     let count : r′ .count ≡ r .count = out .count zero ∙ marked-count m some ∙ sym (audio-out read .count z) in
     record {
@@ -110,13 +108,10 @@ same-audio {k} {f} {g} {c} {samples} {heard} {heard′} {r} {r′} s a c1 c8 rea
     let out = audio-out read in
     let out′ = audio-out read′ in
     let below = read-system read z in
-    let first = half-some k below in
+    let some = some-sequence k below .1 in
     let zero : soundFirst (sequences k) c + 0 ≡ soundFirst (sequences k) c = omega arith in
-    let says : (i : ℕ) → i < 5 → asByte (sequences k) g (soundChannel c) (soundFirst (sequences k) c) i ≡ asByte (sequences k) f (soundChannel c) (soundFirst (sequences k) c) i =
-    λ i hi. rw zero at (a .byte 0 i first hi) in
-    let count : r .count ≡ r′ .count = out .count z ∙ sym (ap (λ (x : ℕ). countBy (x % 64)) (says 1 (omega arith))) ∙ sym (out′ .count z′) in
-    let mode : modeSaid (sequences k) g (soundChannel c) (soundFirst (sequences k) c) ≡ modeSaid (sequences k) f (soundChannel c) (soundFirst (sequences k) c) =
-    ap (λ (x : ℕ). x % 16) (says 2 (omega arith)) in
+    let count : r .count ≡ r′ .count = out .count z ∙ sym (rw zero at (count-same a 0 some)) ∙ sym (out′ .count z′) in
+    let mode = rw zero at (mode-same a 0 some) in
     let samples-same : heard ≡ heard′ =
     lists-one (r′ .count) (out .size ∙ sym (out′ .size))
     (λ t h.
@@ -130,9 +125,9 @@ same-audio {k} {f} {g} {c} {samples} {heard} {heard′} {r} {r′} s a c1 c8 rea
     ∙ sym (out′ .sample z′ (λ x. d (sym mode ∙ x)) t h))))
     (rw count at (out .rest z) ∙ sym (out′ .rest z′)) in
     λ i. (record { number = (z ∙ sym z′) i; count = count i }, samples-same i)) in
-    (ap (λ (o : AudioAnswer × List ℤ). o .0) e, ap (λ (o : AudioAnswer × List ℤ). o .1) e)
+    two-parts e
 
-pub others-same : {k : ℕ} {f : List ℕ} {c : ℕ} {g : List ℕ} → Marks k f c g → (c′ : ℕ) → 0 < c → 0 < c′ → c′ < 9 → c′ ≢ c → {samples heard heard′ : List ℤ} {r r′ : AudioAnswer}
+pub others-same : {k : ℕ} {f : List ℕ} {c : ℕ} {which : ℕ → Bool} {g : List ℕ} → Marks k f c which g → (c′ : ℕ) → 0 < c → 0 < c′ → c′ < 9 → c′ ≢ c → {samples heard heard′ : List ℤ} {r r′ : AudioAnswer}
     → AudioRead k f c′ samples r heard → AudioRead k g c′ samples r′ heard′ → (r ≡ r′) × (heard ≡ heard′)
 others-same m c′ c1 c1′ c8′ d read read′ = same-audio (marks-aaux m) (marks-as m c′ c1 c1′ d) c1′ c8′ read read′
 
@@ -148,7 +143,7 @@ same-survey {k} {f} {g} {list} {list₁} {list₂} {r} {r′} s a a′ =
     alike (surveys.survey-answers k f list) (surveys.survey-answers k g list) (survey-gives s) a a′ (λ z z′.
     let one = listed-one (listed-same s (surveys.surveys-listed k a z)) (surveys.surveys-listed k a′ z′) (z ∙ sym z′) in
     λ i. (one .0 i, one .1 i)) in
-    (ap (λ (o : Survey × List ℕ). o .0) e, ap (λ (o : Survey × List ℕ). o .1) e)
+    two-parts e
 
 pub same-salvage : {k : ℕ} {f g : List ℕ} {samples samples₁ samples₂ : List ℤ} {list list₁ list₂ : List ℕ} {r r′ : Survey} → SameButAaux k f g
     → Salvaged k f samples list r samples₁ list₁ → Salvaged k g samples list r′ samples₂ list₂ → (r ≡ r′) × (samples₁ ≡ samples₂) × (list₁ ≡ list₂)
@@ -172,7 +167,7 @@ same-macroblock {k} {f} {g} {b} {number} {number′} {part} {part′} s n a n′
     let out = picture-out n a .macroblock z (slot .h) (slot .q) (slot .g) (slot .m) (slot .channel) (slot .sequence) (slot .group) (slot .unit) (slot .carries) in
     let out′ = picture-out n′ a′ .macroblock z′ (slot .h) (slot .q) (slot .g) (slot .m) (slot .channel) (slot .sequence) (slot .group) (slot .unit) (slot .carries) in
     λ i. ((z ∙ sym z′) i, (out ∙ sym same ∙ sym out′) i)) in
-    (ap (λ (o : ℕ × List ℕ). o .0) e, ap (λ (o : ℕ × List ℕ). o .1) e)
+    two-parts e
 
 pub same-macroblock-at : {k : ℕ} {f g : List ℕ} {b : ℕ} {r r′ : Part} → SameButAudio k f g → MacroblockLies k f b r → MacroblockLies k g b r′ → r ≡ r′
 same-macroblock-at {k} {f} {g} {b} s a a′ =
@@ -187,7 +182,7 @@ pub same-time : {k : ℕ} {f g : List ℕ} {r r′ : TimeAnswer} → SameButAudi
 same-time {k} {f} {g} {r} {r′} s a a′ =
     alike (reads.time-answers k f) (reads.time-answers k g) (time-gives s) a a′ (λ z z′.
     let rows = first-rows (subst (timeTable k f) z (reads.time-answers k f .numbered r a)) in
-    let some = some-sequence k (rows .0) in
+    let some = some-sequence k (rows .0) .0 in
     let out = time-out a in
     let out′ = time-out a′ in
     let first = low-same s 0 0 1 31 (omega arith) some (omega arith) (omega arith) in
@@ -199,35 +194,25 @@ same-time {k} {f} {g} {r} {r′} s a a′ =
 
 -- ---- what is refuted
 
--- a row that does not give 0 is past
-past : {number : ℕ} {Holds Not Rest : Type 0} → number ≢ 0 → ((0 ≡ number) × Holds) ⊎ (Not × Rest) → Rest
-past some = ⊎-elim (λ h. absurd (some (sym (h .0)))) (λ p. p .1)
-
--- a channel of which one AS is marked and another is not is not read
-pub some-marked : {k : ℕ} {f : List ℕ} {c : ℕ} {samples heard : List ℤ} {r : AudioAnswer} → AudioRead k f c samples r heard → (i j : ℕ) → i < sequences k / 2
-    → j < sequences k / 2 → modeSaid (sequences k) f (soundChannel c) (soundFirst (sequences k) c + i) ≡ 0xF
-    → modeSaid (sequences k) f (soundChannel c) (soundFirst (sequences k) c + j) ≢ 0xF → r .number ≢ 0
-some-marked {k} {f} {c} {samples} {heard} {r} read i j hi hj mark d z =
+-- a channel that is read, with one AS marked and another not
+pub some-marked : {k : ℕ} {f : List ℕ} {c : ℕ} {which : ℕ → Bool} {g : List ℕ} → Marks k f c which g → (i j : ℕ) → i < sequences k / 2 → j < sequences k / 2
+    → which i ≡ true → which j ≡ false → modeSaid (sequences k) f (soundChannel c) (soundFirst (sequences k) c + j) ≢ 0xF
+    → {samples heard heard′ : List ℤ} {r r′ : AudioAnswer} → AudioRead k f c samples r heard → r .number ≡ 0 → AudioRead k g c samples r′ heard′ → r′ .number ≡ 25
+some-marked {k} {f} {c} {which} {g} m i j hi hj wi wj d {samples} {heard} {heard′} {r} {r′} read z read′ =
     let given : audioTable k f c (length samples) 0 = subst (audioTable k f c (length samples)) z (reads.audio-answers k f c samples .numbered (r, heard) read) in
-    let four = past (λ e. omega (arith, e)) (past (λ e. omega (arith, e)) (past (λ e. omega (arith, e)) (past (λ e. omega (arith, e)) given))) in
-    let checks = past (λ e. omega (arith, e)) (past (λ e. omega (arith, e)) (⊎-elim (λ a. absurd (a .some refl)) (λ p. p .1) four)) in
-    let rest = past (λ e. omega (arith, e)) (past (λ e. omega (arith, e)) checks) in
-    ⊎-elim
-    (λ h. let e : _≡_ {A = ℕ} 0 25 = h .0 in omega (arith, e))
-    (λ p. p .0 25 (refl, inr (record { r = i; r′ = j; rank = hi; rank′ = hj; differ = λ e. d (sym e ∙ mark) })))
-    rest
+    sym (reads.audio-answers k g c samples .no-other (r′, heard′) read′ 25 (some-leads m i j hi hj wi wj d .to given))
 
 -- nor are the words of a marked channel handed out
-pub handed-out : (k : ℕ) → k < 4 → (count : ℕ) → OwnCount k count → (c t : ℕ) → 0 < c → c < 9 → t < count → {frame f g : List ℕ} {samples heard : List ℤ}
-    {o : AudioAnswer} → Wrote k (tone k count 5) frame 0 f → Marks k f c g → length samples ≡ positions k → AudioRead k g c samples o heard
-    → getD heard t (pos 0) ≡ pos 5 → ⊥
-handed-out k below count own c t c1 c8 ht {frame} {f} {g} {samples} {heard} wrote m room read e =
+pub handed-out : (k : ℕ) → k < 4 → (count : ℕ) → OwnCount k count → (c t level : ℕ) → 0 < c → c < 9 → t < count → level < 32768 → {frame f g : List ℕ}
+    {samples heard : List ℤ} {o : AudioAnswer} → Wrote k (tone k count 5) frame 0 f → Marks k f c every g → length samples ≡ positions k → AudioRead k g c samples o heard
+    → getD heard t (pos 0) ≡ pos level → ⊥
+handed-out k below count own c t level c1 c8 ht hl {frame} {f} {g} {samples} {heard} wrote m room read e =
     known-system k below (λ y known.
     let first : 0 < macroblocks k = omega (arith, macroblocks-some y, columns k y known .macroblocks-is) in
     let one = read-audio-one k f c samples in
     let back = writes-back wrote .reads-back c samples 0 _ c1 c8 room first (audio-beside (one .meets)) in
     let lost = comes-back-lost m (one .meets) (ap (λ (a : AudioAnswer). a .number) (back .audio)) read in
     let all : t < one .outcome .0 .count = omega (arith, ht, ap (λ (a : AudioAnswer). a .count) (back .audio)) in
-    let same : pos 32768 ≡ pos 5 = sym (lost .lost t all) ∙ e in
-    let q : _≡_ {A = ℕ} 32768 5 = cc in
-    omega (arith, q))
+    let same : pos 32768 ≡ pos level = sym (lost .lost t all) ∙ e in
+    let q : _≡_ {A = ℕ} 32768 level = cc in
+    omega (arith, q, hl))

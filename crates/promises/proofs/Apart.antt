@@ -19,7 +19,7 @@ use Rattle.paper.specs.declared.System.{System}
 use Rattle.paper.specs.declared.SystemNumber.the-variants.{Known}
 use Rattle.paper.specs.declared.Survey.{Survey}
 use Rattle.paper.specs.Paper.{sequences, positions, start, byteAt, bytesAt, sectionAt, figure3, streamFault, records, soundChannel, soundFirst, soundIndex}
-use Rattle.paper.specs.Paper.{soundWord, sampleBy, countBy, vsPack, vauxPlace, vauxByte, ssybPlace, ssybByte}
+use Rattle.paper.specs.Paper.{soundWord, sampleBy, countBy, countSaid, modeSaid, vsPack, vauxPlace, vauxByte, ssybPlace, ssybByte}
 use Rattle.paper.specs.Paper.{slotPlace}
 use Rattle.paper.specs.Bytes.{compared}
 use Rattle.promises.specs.Refusals.{Table, _if_, _else_, none, FirstFault, Some, WrongDsf, VsDisagrees, Flagged, vsByte, SomeInHalf, asByte, AsBreaks}
@@ -31,7 +31,7 @@ use Rattle.promises.specs.Demand3.{faultFor, PositionOut, SalvageOut, Li
 use Rattle.promises.specs.Unrecorded.{SameButAudio, SameButAaux}
 use Rattle.rules_format.specs.Systems.{systemOf}
 use Rattle.rules_format.proofs.Blocks.{before-channel}
-use Rattle.rules_format.proofs.Systems.{sequences-some}
+use Rattle.rules_format.proofs.Systems.{sequences-cases}
 use Rattle.rules_format.proofs.Paper.{columns, known-system, time-below, group-below}
 use Rattle.rules_format.proofs.Numbers.{sound-within, word-within}
 
@@ -54,15 +54,19 @@ else-gives {r = r} here rest = record {
   too = ⊎-elim (λ h. inl (here .to r h)) (λ past. inr ((λ s h. past .0 s (here .from s h)), rest .too (past .1)));
 }
 
--- where none is refused, no row holds
-pub zero-gives : {Holds Holds′ : Type 0} {rows rows′ : Table} (number : ℕ) → number ≢ 0 → (Holds′ → Holds) → Gives 0 rows rows′
-    → Gives 0 (number if Holds else rows) (number if Holds′ else rows′)
-zero-gives number some from rest = record {
-  too = ⊎-elim (λ h. absurd (some (sym (h .0)))) (λ past. inr ((λ s h. past .0 number (refl, from (h .1))), rest .too (past .1)));
-}
-
 pub none-gives : {r : ℕ} → Gives r none none
 none-gives = record { too = λ e. e }
+
+-- where the one gives 0, no row before its last holds, and the other gives r
+pub record Leads (r : ℕ) (table table′ : Table) : Type 0 where
+  pub to : table 0 → table′ r
+
+zero-leads : {row row′ rows rows′ : Table} {r : ℕ} → (row 0 → ⊥) → ((s : ℕ) → row′ s → row s) → Leads r rows rows′ → Leads r (row else rows) (row′ else rows′)
+zero-leads none from rest = record { to = ⊎-elim (λ h. absurd (none h)) (λ past. inr ((λ s h. past .0 s (from s h)), rest .to (past .1))) }
+
+pub if-leads : {Holds Holds′ : Type 0} {rows rows′ : Table} {r : ℕ} (number : ℕ) → number ≢ 0 → (Holds′ → Holds) → Leads r rows rows′
+    → Leads r (number if Holds else rows) (number if Holds′ else rows′)
+if-leads number some from = zero-leads (λ h. some (sym (h .0))) (λ s h. (h .0, from (h .1)))
 
 -- ---- SameButAudio: the bytes that are the same
 
@@ -196,6 +200,15 @@ salvage-out-same {k} s a = record {
 
 -- ---- surveyTable, salvageTable, checkTable: the length of the frame is the same
 
+-- a row that asks nothing of the frame
+row-gives : {row rows rows′ : Table} {r : ℕ} → Gives r rows rows′ → Gives r (row else rows) (row else rows′)
+row-gives rest = else-gives (record { to = λ r h. h; from = λ r h. h }) rest
+
+-- 1 and 2, of every call that is lent a frame
+frame-gives : {k : ℕ} {f g : List ℕ} {rows rows′ : Table} {r : ℕ} → SameButAudio k f g → Gives r rows rows′
+    → Gives r (1 if (3 < k) else 2 if (length f ≢ 48000 * sequences k) else rows) (1 if (3 < k) else 2 if (length g ≢ 48000 * sequences k) else rows′)
+frame-gives s rest = row-gives (else-gives (same-if 2 (λ d z. d (sym (s .size) ∙ z)) (λ d z. d (s .size ∙ z))) rest)
+
 pub survey-gives : {k : ℕ} {f g : List ℕ} {r : ℕ} → SameButAudio k f g → Gives r (surveyTable k (length f)) (surveyTable k (length g))
 survey-gives s = record { too = λ e. rw (s .size) e }
 
@@ -203,9 +216,7 @@ pub salvage-gives : {k room : ℕ} {f g : List ℕ} {r : ℕ} → SameButAudio k
 salvage-gives s = record { too = λ e. rw (s .size) e }
 
 pub check-gives : {k : ℕ} {f g : List ℕ} {r : ℕ} → SameButAudio k f g → Gives r (checkTable k f) (checkTable k g)
-check-gives s =
-    else-gives (same-if 1 (λ h. h) (λ h. h))
-    (else-gives (same-if 2 (λ d z. d (sym (s .size) ∙ z)) (λ d z. d (s .size ∙ z))) (checked-gives s none-gives))
+check-gives s = frame-gives s (checked-gives s none-gives)
 
 -- ---- macroblockTable, timeTable
 
@@ -215,14 +226,18 @@ unfolding figure3
 slot-section v h = eqb-false _ _ (not-true _ (below-means (λ (i : ℕ). not (eqb (sectionAt (slotPlace i)) 3)) 135 refl v h))
 
 pub macroblock-gives : {k : ℕ} {f g : List ℕ} {b r : ℕ} → SameButAudio k f g → Gives r (macroblockTable k f b) (macroblockTable k g b)
-macroblock-gives s =
-    else-gives (same-if 1 (λ h. h) (λ h. h))
-    (else-gives (same-if 2 (λ d z. d (sym (s .size) ∙ z)) (λ d z. d (s .size ∙ z)))
-    (else-gives (same-if 3 (λ h. h) (λ h. h))
-    (checked-gives s (else-gives (same-if 23 (flag-to s 6 (omega arith)) (flag-to (apart-sym s) 6 (omega arith))) none-gives))))
+macroblock-gives s = frame-gives s (row-gives (checked-gives s (else-gives (same-if 23 (flag-to s 6 (omega arith)) (flag-to (apart-sym s) 6 (omega arith))) none-gives)))
 
-pub some-sequence : (k : ℕ) → k < 4 → 0 < sequences k
-some-sequence k below = known-system k below (λ y known. omega (arith, sequences-some y, columns k y known .sequences-is))
+pub sequences-two : (k : ℕ) → k < 4 → (sequences k ≡ 10) ⊎ (sequences k ≡ 12)
+sequences-two k below =
+    known-system k below (λ y known.
+    let is = columns k y known .sequences-is in ⊎-elim (λ ten. inl (is ∙ ten)) (λ twelve. inr (is ∙ twelve)) (sequences-cases y))
+
+-- a system has a sequence, and one of rank 0 in each half
+pub some-sequence : (k : ℕ) → k < 4 → (0 < sequences k) × (0 < sequences k / 2)
+some-sequence k below =
+    ⊎-elim (λ (ten : sequences k ≡ 10). (omega (arith, ten), omega (arith, ten))) (λ (twelve : sequences k ≡ 12). (omega (arith, twelve), omega (arith, twelve)))
+    (sequences-two k below)
 
 -- a byte of the pack of an SSYB
 module _ {k : ℕ} {f g : List ℕ} (s : SameButAudio k f g) where
@@ -256,29 +271,46 @@ pub time-gives : {k : ℕ} {f g : List ℕ} {r : ℕ} → SameButAudio k f g →
 time-gives {k} {f} {g} {r} s = record {
   too = λ e.
       by-lt k 4
-      (λ below. rows (some-sequence k below) .too e)
+      (λ below. rows (some-sequence k below .0) .too e)
       (λ above. ⊎-elim (λ h. inl h) (λ past. absurd (past .0 1 (refl, above))) e);
 }
   where
     rows : 0 < sequences k → Gives r (timeTable k f) (timeTable k g)
     rows some =
         let back = apart-sym s in
-        else-gives (same-if 1 (λ h. h) (λ h. h))
-        (else-gives (same-if 2 (λ d z. d (sym (s .size) ∙ z)) (λ d z. d (s .size ∙ z)))
+        frame-gives s
         (checked-gives s
         (else-gives (same-if 23 (flag-to s 7 (omega arith)) (flag-to back 7 (omega arith)))
         (else-gives (same-if 26 (wrong-first-to s some) (wrong-first-to back some))
-        (else-gives (same-if 27 (some-to (differs-to s some)) (some-to (differs-to back some))) none-gives)))))
+        (else-gives (same-if 27 (some-to (differs-to s some)) (some-to (differs-to back some))) none-gives))))
 
 -- ---- audioTable
 
 -- the rows before an audio channel's own
 pub audio-gives : {k : ℕ} {f g : List ℕ} {c room r : ℕ} → SameButAudio k f g → Gives r (soundTable k f c) (soundTable k g c)
     → Gives r (audioTable k f c room) (audioTable k g c room)
-audio-gives s rest =
-    else-gives (same-if 1 (λ h. h) (λ h. h))
-    (else-gives (same-if 2 (λ d z. d (sym (s .size) ∙ z)) (λ d z. d (s .size ∙ z)))
-    (else-gives (same-if 3 (λ h. h) (λ h. h)) (else-gives (same-if 4 (λ h. h) (λ h. h)) (checked-gives s rest))))
+audio-gives s rest = frame-gives s (row-gives (row-gives (checked-gives s rest)))
+
+-- the rows of an audio read before 24
+abbrev pub beforeAs : ℕ → List ℕ → ℕ → ℕ → Table → Table
+beforeAs k f c room rows =
+    1 if (3 < k)
+    else 2 if (length f ≢ 48000 * sequences k)
+    else 3 if ((c ≡ 0) ⊎ (8 < c))
+    else 4 if (room ≢ positions k)
+    else checked k f (23 if Some (sequences k) (Flagged 5 (sequences k) f) else rows)
+
+pub audio-leads : {k : ℕ} {f g : List ℕ} {c room r : ℕ} {rows rows′ : Table} → SameButAudio k f g → Leads r rows rows′
+    → Leads r (beforeAs k f c room rows) (beforeAs k g c room rows′)
+audio-leads s rest =
+    let back = apart-sym s in
+    if-leads 1 (λ z. omega (arith, z)) (λ h. h)
+    (if-leads 2 (λ z. omega (arith, z)) (λ d z. d (s .size ∙ z))
+    (if-leads 3 (λ z. omega (arith, z)) (λ h. h)
+    (if-leads 4 (λ z. omega (arith, z)) (λ h. h)
+    (zero-leads (λ a. a .some refl) (first-to back)
+    (if-leads 21 (λ z. omega (arith, z)) (dsf-to back)
+    (if-leads 22 (λ z. omega (arith, z)) (vs-to back) (if-leads 23 (λ z. omega (arith, z)) (flag-to back 5 (omega arith)) rest)))))))
 
 -- the AS packs of audio channel c are the same in both
 pub record SameAs (k : ℕ) (f g : List ℕ) (c : ℕ) : Type 0 where
@@ -314,11 +346,17 @@ differ-to same d = record {
 }
 
 module _ {k : ℕ} {f g : List ℕ} {c : ℕ} (s : SameAs k f g c) where
+  -- what they say
+  pub count-same : (r : ℕ) → r < sequences k / 2 → countSaid (sequences k) g (soundChannel c) (soundFirst (sequences k) c + r)
+      ≡ countSaid (sequences k) f (soundChannel c) (soundFirst (sequences k) c + r)
+  count-same r hr = ap (λ (x : ℕ). countBy (x % 64)) (s .byte r 1 hr (omega arith))
+
+  pub mode-same : (r : ℕ) → r < sequences k / 2 → modeSaid (sequences k) g (soundChannel c) (soundFirst (sequences k) c + r)
+      ≡ modeSaid (sequences k) f (soundChannel c) (soundFirst (sequences k) c + r)
+  mode-same r hr = ap (λ (x : ℕ). x % 16) (s .byte r 2 hr (omega arith))
+
   as-differ-to : AsDiffer (sequences k) f c → AsDiffer (sequences k) g c
-  as-differ-to =
-      ⊎-elim
-      (λ d. inl (differ-to (λ r hr. ap (λ (x : ℕ). countBy (x % 64)) (s .byte r 1 hr (omega arith))) d))
-      (λ d. inr (differ-to (λ r hr. ap (λ (x : ℕ). x % 16) (s .byte r 2 hr (omega arith))) d))
+  as-differ-to = ⊎-elim (λ d. inl (differ-to count-same d)) (λ d. inr (differ-to mode-same d))
 
 -- an audio channel whose AS packs are the same
 pub sound-gives : {k : ℕ} {f g : List ℕ} {c r : ℕ} → SameButAudio k f g → SameAs k f g c → Gives r (soundTable k f c) (soundTable k g c)

@@ -1,13 +1,14 @@
 -- What an edit of a promise is refused by: each statement leaves one answer, so that a clause that is weakened is noticed. Assumes nothing.
 use mathlib.Core.Path.{_≡_}
 use mathlib.Core.List.{List}
-use Prim.Native.Nat.{ℕ, _+_, _-_, _*_, _%_, _≤_, _<_}
+use mathlib.Core.Bool.{Bool, true}
+use Prim.Native.Nat.{ℕ, _+_, _-_, _*_, _/_, _%_, _≤_, _<_}
 use lib.Dec.{ltb}
 use lib.IntN.{pos, ℤ}
 use lib.ListN.{length, getD, take, drop, set}
 use Rattle.base.specs.Pick.{pick}
 use Rattle.base.specs.Calls.{ExactlyOne}
-use Rattle.paper.specs.Paper.{sequences, sectionAt, soundIndex, back, macroblocks, streamFault}
+use Rattle.paper.specs.Paper.{sequences, sectionAt, soundChannel, soundFirst, soundIndex, modeSaid, back, macroblocks, streamFault}
 use Rattle.promises.specs.Contents.{Contents}
 use Rattle.promises.specs.Demand2.{Strict, ReadsBack, IdOut, ViewOut, MacroblockOut, ReadOut, GoesThrough, LaidOut}
 use Rattle.paper.specs.declared.Survey.{Survey}
@@ -15,7 +16,7 @@ use Rattle.paper.specs.declared.AudioAnswer.{AudioAnswer}
 use Rattle.promises.specs.Demand3.{Listed, SalvageOut, Salvages, SampleSalvaged}
 use Rattle.promises.specs.Unrecorded.{Marks, ComesBackLost, SameButAudio, SameButAaux}
 use Rattle.promises.proofs.Apart.{audio-free, aaux-free}
-use Rattle.promises.proofs.Unrecorded.{marks-one}
+use Rattle.promises.proofs.Unrecorded.{marks-one, marks-bits, already-marked}
 use Rattle.rules_format.proofs.Paper.{known-system}
 use Rattle.promises.proofs.One.{listed-one, ids-one, views-one, macroblocks-one, reads-one, reads-back-one, salvages-one, salvage-out-one}
 use Rattle.promises.proofs.One.{lost-one, untouched-one, coasting}
@@ -25,7 +26,7 @@ use Rattle.paper.specs.declared.IdValues.{IdValues}
 use Rattle.paper.specs.declared.Part.{Part}
 use Rattle.promises.proofs.LaidOut.{laid-out-one}
 use Rattle.promises.specs.Refusals.{idTable, surveyTable, salvageTable, sequenceTable, viewTable, checkTable, audioTable, macroblockTable, timeTable}
-use Rattle.promises.specs.Refusals.{writeTable}
+use Rattle.promises.specs.Refusals.{writeTable, asByte}
 use Rattle.promises.proofs.OneNumber.{One, id-one, survey-one, salvage-one, sequence-one, view-one, check-one, audio-one, macroblock-one, time-one}
 use Rattle.promises.proofs.OneNumber.{write-one}
 
@@ -72,10 +73,20 @@ one-frame {k} below {l} {f} {g} a b = known-system k below (λ y known. laid-out
 pub one-back : {l : Contents} {c : ℕ} {samples : List ℤ} {b : ℕ} {o o′ : Strict} → ReadsBack l c samples b o → ReadsBack l c samples b o′ → o ≡ o′
 one-back = reads-back-one
 
--- ---- unrecorded channels: the frame with an audio channel marked, what comes back of it, and what may differ where nothing else does
+-- ---- unrecorded channels: the frame with an audio channel marked, in all its AS packs or in some; what comes back; what may differ where nothing else does
 
-pub one-marked : (k : ℕ) (f : List ℕ) (c : ℕ) → length f ≡ 48000 * sequences k → 0 < c → c < 9 → ExactlyOne (List ℕ) (Marks k f c)
+pub one-marked : (k : ℕ) (f : List ℕ) (c : ℕ) (which : ℕ → Bool) → length f ≡ 48000 * sequences k → 0 < c → c < 9 → ExactlyOne (List ℕ) (Marks k f c which)
 one-marked = marks-one
+
+-- a mark is bits 3-0 of these bytes and no other bit; a frame that has it stays as it is
+pub marked-bits : {k : ℕ} {f : List ℕ} {c : ℕ} {which : ℕ → Bool} {g : List ℕ} → Marks k f c which g → (r : ℕ) → r < sequences k / 2 → which r ≡ true
+    → (asByte (sequences k) g (soundChannel c) (soundFirst (sequences k) c + r) 2 % 16 ≡ 0xF)
+    × (asByte (sequences k) g (soundChannel c) (soundFirst (sequences k) c + r) 2 / 16 ≡ asByte (sequences k) f (soundChannel c) (soundFirst (sequences k) c + r) 2 / 16)
+marked-bits = marks-bits
+
+pub marked-before : (k : ℕ) (f : List ℕ) (c : ℕ) (which : ℕ → Bool)
+    → ((r : ℕ) → r < sequences k / 2 → which r ≡ true → modeSaid (sequences k) f (soundChannel c) (soundFirst (sequences k) c + r) ≡ 0xF) → Marks k f c which f
+marked-before = already-marked
 
 pub one-lost : {a o o′ : AudioAnswer} {samples heard heard′ : List ℤ} → ComesBackLost a samples o heard → ComesBackLost a samples o′ heard′
     → (o ≡ o′) × (heard ≡ heard′)

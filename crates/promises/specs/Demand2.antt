@@ -59,11 +59,11 @@ pub record Strict : Type 0 where
   pub time : TimeAnswer
 
 pub record ReadOut (k : ℕ) (f : List ℕ) (c : ℕ) (samples : List ℤ) (b : ℕ) (o : Strict) : Type 0 where
-  -- "packs, the place of each audio sample"
+  -- "packs, the place of each audio sample": of a channel that is not marked what stands there
   pub count : o .audio .number ≡ 0 → o .audio .count ≡ countSaid (sequences k) f (soundChannel c) (soundFirst (sequences k) c)
   pub sample : o .audio .number ≡ 0 → modeSaid (sequences k) f (soundChannel c) (soundFirst (sequences k) c) ≢ 0xF → (t : ℕ) → t < o .audio .count
       → getD (o .samples) t (pos 0) ≡ sampleBy (soundWord (sequences k) f c t)
-  -- of a channel marked "with audio mode 1111" it "hands out every sample up to [the count] as lost"
+  -- of one that is marked "with audio mode 1111" it "hands out every sample up to it as lost", the count
   pub unrecorded : o .audio .number ≡ 0 → modeSaid (sequences k) f (soundChannel c) (soundFirst (sequences k) c) ≡ 0xF → (t : ℕ) → t < o .audio .count
       → getD (o .samples) t (pos 0) ≡ pos 32768
   pub rest : o .audio .number ≡ 0 → drop (o .audio .count) (o .samples) ≡ drop (o .audio .count) samples

@@ -20,7 +20,7 @@ fn refused(number: u32) -> AudioAnswer
     }
 }
 
-// Every entry is lost.
+// Every entry becomes lost.
 fn lose(samples: &mut [i32])
     ensures { λ _. ⌜ now (samples .exit) ≡ replicate (length (now (samples .entry))) lost ⌝ }
 {

@@ -56,6 +56,7 @@ in-bytes k y known = record {
   as-right = as-right k y known;
   count = λ p. count-by (p .pc1 % 64);
   mode = λ p. refl;
+  mark = λ p. refl;
   packs = λ p. (refl, refl);
   pack-in = λ block at. refl;
   clock-clauses = λ p. (time-means y p, time-when y p);

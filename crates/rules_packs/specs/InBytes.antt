@@ -17,7 +17,7 @@ use Rattle.rules_format.specs.Sound.{audioAt}
 use Rattle.rules_packs.specs.Packs.{packBytes, packIn, fourBytes}
 use Rattle.rules_packs.specs.TimeCode.{Clock, timePack, timeOk, groupOk, timeTaken}
 use Rattle.rules_packs.specs.Vaux.{Vs, vsAt, vauxPack, vauxBytes, vauxBlock, vauxIn, vsOk}
-use Rattle.rules_packs.specs.Aaux.{As, asAt, asPack, aauxPack, aauxIn, countIn, modeIn, asOk}
+use Rattle.rules_packs.specs.Aaux.{As, asAt, asPack, aauxPack, aauxIn, countIn, modeIn, isMark, asOk}
 use Rattle.rules_packs.specs.Repeated.{repeatedOf}
 use Rattle.rules_packs.specs.Header.{headerBytes, dsfOk, flagged}
 use Rattle.rules_packs.specs.Subcode.{isFirst, kindOf, ssyb, subcodeBytes, ssybPack}
@@ -63,11 +63,12 @@ pub record InBytes (k : ℕ) (y : System) : Type 0 where
   pub aaux-pair : (source asc : Pack) (q : ℕ) → (aauxPack source asc q (Paper.asPack q) ≡ source) × (aauxPack source asc q (Paper.asPack q + 1) ≡ asc)
   pub as-at : (q : ℕ) → asAt q ≡ Paper.asPack q
   pub aaux-read : (block : List ℕ) → packBytes (aauxIn block) ≡ fiveFrom block 3
-  -- 24, and the count and the mode of 25
+  -- 24; the count and the mode of 25, and the mark
   pub as-wrong : (c : ℕ) (p : Pack) → asOk y c p ≡ false → WrongAs k c (p .pc0) (p .pc1) (p .pc2) (p .pc3) (p .pc4)
   pub as-right : (c : ℕ) (p : Pack) → asOk y c p ≡ true → WrongAs k c (p .pc0) (p .pc1) (p .pc2) (p .pc3) (p .pc4) → ⊥
   pub count : (p : Pack) → countIn p ≡ countBy (p .pc1 % 64)
   pub mode : (p : Pack) → modeIn p ≡ p .pc2 % 16
+  pub mark : (p : Pack) → isMark (modeIn p) ≡ eqb (p .pc2 % 16) 0xF
   -- a pack in a block, and its bytes
   pub packs : (p : Pack) → (packBytes p ≡ p .pc0 ∷ p .pc1 ∷ p .pc2 ∷ p .pc3 ∷ p .pc4 ∷ []) × (fourBytes p ≡ p .pc1 ∷ p .pc2 ∷ p .pc3 ∷ p .pc4 ∷ [])
   pub pack-in : (block : List ℕ) (at : ℕ) → packIn block at ≡ record {

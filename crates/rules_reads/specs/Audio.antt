@@ -53,7 +53,7 @@ countFor y frame c = countIn (firstAs y frame c)
 abbrev pub modeFor : System → List ℕ → ℕ → ℕ
 modeFor y frame c = modeIn (firstAs y frame c)
 
--- "mark the others with audio mode 1111"
+-- marked "with audio mode 1111", by its first AS: where the channel is read, the others say the same
 abbrev pub isMarked : System → List ℕ → ℕ → Bool
 isMarked y frame c = isMark (modeFor y frame c)
 
