@@ -194,7 +194,7 @@ salvage-out-same {k} s a = record {
   size = a .size;
   position = λ c t c1 c8 ht.
       by-lt k 4
-      (λ below. known-system k below (λ y known. position-same s y known c t c1 c8 ht (a .position c t c1 c8 ht)))
+      (λ below. known-system k below (λ y known. position-same s y known c t c1 c8 (omega (arith, ht)) (a .position c t c1 c8 ht)))
       (λ above. let none : positions k ≡ 0 = List·getD-eq-default {A = ℕ} (1620 ∷ 1944 ∷ 1620 ∷ 1944 ∷ []) 0 above in absurd (omega (arith, ht, none)));
 }
 
