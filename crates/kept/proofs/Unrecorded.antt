@@ -71,24 +71,32 @@ two-parts {A} {B} e = (ap (λ (o : A × B). o .0) e, ap (λ (o : A × B). o .1) 
 
 -- ---- read_audio
 
-module _ {k : ℕ} {f : List ℕ} {c : ℕ} {samples heard : List ℤ} {r : AudioAnswer} (read : AudioRead k f c samples r heard) where
-  module _ (z : r .number ≡ 0) where
-    -- the system is known
-    read-system : k < 4
-    read-system = first-rows (subst (audioTable k f c (length samples)) z (reads.audio-answers k f c samples .numbered (r, heard) read)) .0
+-- where it answers 0
+module _ {k : ℕ} {f : List ℕ} {c : ℕ} {samples heard : List ℤ} {r : AudioAnswer} (read : AudioRead k f c samples r heard) (z : r .number ≡ 0) where
+  given : audioTable k f c (length samples) 0
+  given = subst (audioTable k f c (length samples)) z (reads.audio-answers k f c samples .numbered (r, heard) read)
 
-    -- its samples are among the positions
-    count-within : (y : System) → systemOf k ≡ Known y → r .count < positions k
-    count-within y known =
-        let zero : audioNumber k f c (length samples) ≡ 0 = sym (audio-number k f c samples read) ∙ z in
-        omega (arith, ap (λ (a : AudioAnswer). a .count) (audio-taken k f c samples y known zero read .0), audio-count k f c samples y known zero, audio-zero k f c (length samples) y known zero .2, columns k y known .positions-is)
+  -- the system is known
+  read-system : k < 4
+  read-system = first-rows given .0
+
+  -- its samples are among the positions
+  count-within : (y : System) → systemOf k ≡ Known y → r .count < positions k
+  count-within y known =
+      let zero : audioNumber k f c (length samples) ≡ 0 = sym (audio-number k f c samples read) ∙ z in
+      omega (
+        arith,
+        ap (λ (a : AudioAnswer). a .count) (audio-taken k f c samples y known zero read .0),
+        audio-count k f c samples y known zero,
+        audio-zero k f c (length samples) y known zero .2,
+        columns k y known .positions-is,
+      )
 
 -- a channel that is read, with all its AS packs marked
 pub comes-back-lost : {k : ℕ} {f : List ℕ} {c : ℕ} {g : List ℕ} {samples heard heard′ : List ℤ} {r r′ : AudioAnswer} → Marks k f c every g
     → AudioRead k f c samples r heard → r .number ≡ 0 → AudioRead k g c samples r′ heard′ → ComesBackLost r samples r′ heard′
 comes-back-lost {k} {f} {c} {g} {samples} {heard} {heard′} {r} {r′} m read z read′ =
-    let given : audioTable k f c (length samples) 0 = subst (audioTable k f c (length samples)) z (reads.audio-answers k f c samples .numbered (r, heard) read) in
-    let zero : r′ .number ≡ 0 = sym (reads.audio-answers k g c samples .no-other (r′, heard′) read′ 0 (every-leads m .to given)) in
+    let zero : r′ .number ≡ 0 = sym (reads.audio-answers k g c samples .no-other (r′, heard′) read′ 0 (every-leads m .to (given read z))) in
     let some = some-sequence k (read-system read z) .1 in
     let out = audio-out read′ in
     let count : r′ .count ≡ r .count = out .count zero ∙ marked-count m some ∙ sym (audio-out read .count z) in
@@ -98,6 +106,13 @@ comes-back-lost {k} {f} {c} {g} {samples} {heard} {heard′} {r} {r′} m read z
       rest = rw count at (out .rest zero);
       size = out .size;
     }
+
+-- a channel that is read, with one AS marked and another not
+pub some-marked : {k : ℕ} {f : List ℕ} {c : ℕ} {which : ℕ → Bool} {g : List ℕ} → Marks k f c which g → (i j : ℕ) → i < sequences k / 2 → j < sequences k / 2
+    → which i ≡ true → which j ≡ false → modeSaid (sequences k) f (soundChannel c) (soundFirst (sequences k) c + j) ≢ 0xF
+    → {samples heard heard′ : List ℤ} {r r′ : AudioAnswer} → AudioRead k f c samples r heard → r .number ≡ 0 → AudioRead k g c samples r′ heard′ → r′ .number ≡ 25
+some-marked {k} {f} {c} {which} {g} m i j hi hj wi wj d {samples} {heard} {heard′} {r} {r′} read z read′ =
+    sym (reads.audio-answers k g c samples .no-other (r′, heard′) read′ 25 (some-leads m i j hi hj wi wj d .to (given read z)))
 
 -- one whose AS packs are the same in both frames
 pub same-audio : {k : ℕ} {f g : List ℕ} {c : ℕ} {samples heard heard′ : List ℤ} {r r′ : AudioAnswer} → SameButAaux k f g → SameAs k f g c → 0 < c → c < 9
@@ -127,8 +142,8 @@ same-audio {k} {f} {g} {c} {samples} {heard} {heard′} {r} {r′} s a c1 c8 rea
     λ i. (record { number = (z ∙ sym z′) i; count = count i }, samples-same i)) in
     two-parts e
 
-pub others-same : {k : ℕ} {f : List ℕ} {c : ℕ} {which : ℕ → Bool} {g : List ℕ} → Marks k f c which g → (c′ : ℕ) → 0 < c → 0 < c′ → c′ < 9 → c′ ≢ c → {samples heard heard′ : List ℤ} {r r′ : AudioAnswer}
-    → AudioRead k f c′ samples r heard → AudioRead k g c′ samples r′ heard′ → (r ≡ r′) × (heard ≡ heard′)
+pub others-same : {k : ℕ} {f : List ℕ} {c : ℕ} {which : ℕ → Bool} {g : List ℕ} → Marks k f c which g → (c′ : ℕ) → 0 < c → 0 < c′ → c′ < 9 → c′ ≢ c
+    → {samples heard heard′ : List ℤ} {r r′ : AudioAnswer} → AudioRead k f c′ samples r heard → AudioRead k g c′ samples r′ heard′ → (r ≡ r′) × (heard ≡ heard′)
 others-same m c′ c1 c1′ c8′ d read read′ = same-audio (marks-aaux m) (marks-as m c′ c1 c1′ d) c1′ c8′ read read′
 
 -- ---- the calls that do not look behind the ID of an audio block
@@ -162,8 +177,9 @@ same-macroblock {k} {f} {g} {b} {number} {number′} {part} {part′} s n a n′
     alike (reads.macroblock-answers k f b) (reads.macroblock-answers k g b) (macroblock-gives s) (n, a) (n′, a′) (λ z z′.
     let slot = slot-of k b (read-below k f b (sym (n .answer) ∙ z)) in
     let v = 5 * slot .g + slot .m in
-    let lies = slot-section v (omega (arith, slot .group, slot .unit)) in
-    let same = bytes-same s (first-rows (subst (macroblockTable k f b) z (reads.macroblock-answers k f b .numbered (number, part) (n, a))) .1) (slot .h) (slot .q) (slotPlace v) 3 77 (slot .channel) (slot .sequence) (omega (arith, slot .group, slot .unit)) (omega arith) lies in
+    let lies : v < 135 = omega (arith, slot .group, slot .unit) in
+    let whole = first-rows (subst (macroblockTable k f b) z (reads.macroblock-answers k f b .numbered (number, part) (n, a))) .1 in
+    let same = bytes-same s whole (slot .h) (slot .q) (slotPlace v) 3 77 (slot .channel) (slot .sequence) (omega (arith, lies)) (omega arith) (slot-section v lies) in
     let out = picture-out n a .macroblock z (slot .h) (slot .q) (slot .g) (slot .m) (slot .channel) (slot .sequence) (slot .group) (slot .unit) (slot .carries) in
     let out′ = picture-out n′ a′ .macroblock z′ (slot .h) (slot .q) (slot .g) (slot .m) (slot .channel) (slot .sequence) (slot .group) (slot .unit) (slot .carries) in
     λ i. ((z ∙ sym z′) i, (out ∙ sym same ∙ sym out′) i)) in
@@ -192,17 +208,8 @@ same-time {k} {f} {g} {r} {r′} s a a′ =
     let group : r .group ≡ r′ .group = out .group z ∙ rw (bytes 39 4 (omega arith)) at (sym (out′ .group z′)) in
     λ i. record { number = (z ∙ sym z′) i; time = time i; group = group i })
 
--- ---- what is refuted
+-- ---- the words of a marked channel are not handed out
 
--- a channel that is read, with one AS marked and another not
-pub some-marked : {k : ℕ} {f : List ℕ} {c : ℕ} {which : ℕ → Bool} {g : List ℕ} → Marks k f c which g → (i j : ℕ) → i < sequences k / 2 → j < sequences k / 2
-    → which i ≡ true → which j ≡ false → modeSaid (sequences k) f (soundChannel c) (soundFirst (sequences k) c + j) ≢ 0xF
-    → {samples heard heard′ : List ℤ} {r r′ : AudioAnswer} → AudioRead k f c samples r heard → r .number ≡ 0 → AudioRead k g c samples r′ heard′ → r′ .number ≡ 25
-some-marked {k} {f} {c} {which} {g} m i j hi hj wi wj d {samples} {heard} {heard′} {r} {r′} read z read′ =
-    let given : audioTable k f c (length samples) 0 = subst (audioTable k f c (length samples)) z (reads.audio-answers k f c samples .numbered (r, heard) read) in
-    sym (reads.audio-answers k g c samples .no-other (r′, heard′) read′ 25 (some-leads m i j hi hj wi wj d .to given))
-
--- nor are the words of a marked channel handed out
 pub handed-out : (k : ℕ) → k < 4 → (count : ℕ) → OwnCount k count → (c t level : ℕ) → 0 < c → c < 9 → t < count → level < 32768 → {frame f g : List ℕ}
     {samples heard : List ℤ} {o : AudioAnswer} → Wrote k (tone k count 5) frame 0 f → Marks k f c every g → length samples ≡ positions k → AudioRead k g c samples o heard
     → getD heard t (pos 0) ≡ pos level → ⊥

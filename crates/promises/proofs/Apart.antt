@@ -286,7 +286,6 @@ time-gives {k} {f} {g} {r} s = record {
 
 -- ---- audioTable
 
--- the rows before an audio channel's own
 pub audio-gives : {k : ℕ} {f g : List ℕ} {c room r : ℕ} → SameButAudio k f g → Gives r (soundTable k f c) (soundTable k g c)
     → Gives r (audioTable k f c room) (audioTable k g c room)
 audio-gives s rest = frame-gives s (row-gives (row-gives (checked-gives s rest)))
