@@ -16,43 +16,13 @@ use paper::BlockNumber;
 use paper::Pack;
 use paper::System;
 
-// The word of sample t of an audio channel; 0 from the count on.
-fn last_word(samples: &[i32], t: usize) -> u32
-    ensures { λ r. ⌜ r ≡ sampleWord (now (samples .entry)) t ⌝ }
-{
-    if t < samples.len() {
-        let x = samples[t];
-        return sound::word_for(x);
-    }
-    0
-}
-
-// The 36 words of a block: its samples are `step` apart. Every count has 35 whole turns, so that the last word alone may be past it.
-fn put_words(part: &mut [u8], samples: &[i32], first: usize, step: usize)
-    requires { ⌜ WordsAsked (now part) (now samples) first step ⌝ }
-    ensures { λ _. ⌜ now (part .exit) ≡ run (wordPair (now (samples .entry)) first step) 36 ⌝ }
-{
-    let mut t = first;
-    let mut w = 0;
-    while w < 35 {
-        let at = w * 2;
-        let to = at + 2;
-        let x = samples[t];
-        parts::put_word(&mut part[at..to], sound::word_for(x));
-        t += step;
-        w += 1;
-    }
-    parts::put_word(&mut part[70..72], last_word(samples, t));
-}
-
-// The words of A(a) of sequence q, from the samples of its audio channel: the first by the sound rule, the others 9s apart.
-fn put_samples(part: &mut [u8], y: System, samples: &[i32], q: u32, a: BlockNumber)
+// The words of A(a) of sequence q. "Positions from the count on are written 0": the last word alone may be past it.
+fn put_words(part: &mut [u8], y: System, samples: &[i32], q: u32, a: BlockNumber)
     requires { ⌜ AudioAsked (now part) 72 y (now samples) (a .0) ⌝ }
     ensures { λ _. ⌜ now (part .exit) ≡ run (wordBytes y (now (samples .entry)) q (a .0)) 36 ⌝ }
 {
-    let s = layout::half(y);
-    let first = sound::first_at(y, q, a);
-    put_words(part, samples, first as usize, 9 * (s as usize));
+    base::fill(&mut part[70..72], 0);
+    sample_words::put_samples(part, y, samples, q, a);
 }
 
 fn write_audio(block: &mut [u8], id: BlockId, y: System, source: Pack, asc: Pack, samples: &[i32])
@@ -63,7 +33,7 @@ fn write_audio(block: &mut [u8], id: BlockId, y: System, source: Pack, asc: Pack
     let a = id.dbn;
     parts::put_id(&mut block[0..3], id);
     parts::put_pack(&mut block[3..8], packs::aaux_pack(source, asc, q, a.0));
-    put_samples(&mut block[8..BLOCK], y, samples, q, a);
+    put_words(&mut block[8..BLOCK], y, samples, q, a);
 }
 
 // A block of the section, and samples for 35 whole turns.

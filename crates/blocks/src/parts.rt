@@ -44,12 +44,3 @@ pub(crate) fn put_pack(part: &mut [u8], p: Pack)
 {
     put_five(part, p.pc0, p.pc1, p.pc2, p.pc3, p.pc4);
 }
-
-// A word, its high byte first.
-pub(crate) fn put_word(part: &mut [u8], word: u32)
-    requires { ⌜ WordAsked (now part) word ⌝ }
-    ensures { λ _. ⌜ now (part .exit) ≡ bytesOf word ⌝ }
-{
-    part[0] = (word / 256) as u8;
-    part[1] = (word % 256) as u8;
-}

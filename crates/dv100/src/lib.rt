@@ -10,6 +10,7 @@ ghost use Rattle.rules_surveys.specs.Salvage.{Salvaged};
 ghost use Rattle.rules_surveys.specs.Survey.{FrameSurveyed, SequenceSurveyed};
 ghost use Rattle.rules_reads.specs.Time.{TimeRead};
 ghost use Rattle.rules_surveys.specs.View.{ViewLies};
+ghost use Rattle.rules_replaces.specs.Replace.{Replaced};
 ghost use Rattle.rules_writes.specs.Write.{contentsOf, Wrote};
 use paper::AudioAnswer;
 use paper::IdValues;
@@ -110,6 +111,19 @@ pub extern "C" fn dv100_salvage(
     ensures { λ r. ⌜ Salvaged system (now (frame .entry)) (now (samples .entry)) (now (list .entry)) r (now (samples .exit)) (now (list .exit)) ⌝ }
 {
     rescue::salvage(system, frame, samples, list)
+}
+
+// Replaces the samples of an audio channel. Refusals: 1, 2, 3, the frame check's, 23, 24, 25, 29, 31, 33.
+#[no_mangle]
+pub extern "C" fn dv100_replace_audio(
+    system: u32,
+    frame: &mut [u8],
+    audio_channel: u32,
+    samples: &[i32],
+) -> u32
+    ensures { λ r. ⌜ Replaced system (now (frame .entry)) «audio_channel» (now (samples .entry)) r (now (frame .exit)) ⌝ }
+{
+    replacer::replace_audio(system, frame, audio_channel, samples)
 }
 
 // Fills a frame. Refusals: 1, 2, 3, 4, 31, 32.

@@ -19,7 +19,7 @@ fn as_agree(y: System, frame: &[u8], audio: u32) -> bool
 }
 
 // What a frame is refused for beyond the frame check: 23, 24, 25.
-fn sound_number(y: System, frame: &[u8], audio: u32) -> u32
+pub fn sound_number(y: System, frame: &[u8], audio: u32) -> u32
     ensures { λ r. ⌜ r ≡ firstOf (audioRows y (now (frame .entry)) audio) ⌝ }
 {
     if !judges::every_sequence(y, frame, Test::Unflagged(1)) {

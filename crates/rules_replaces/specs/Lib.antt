@@ -1,0 +1,2 @@
+-- The call with its contract.
+pub mod Replace
