@@ -1,11 +1,12 @@
 -- A rule of every number below a bound, proved by one test that antt computes. Assumes nothing.
 use mathlib.Core.Path.{_≡_, refl, subst, sym}
-use mathlib.Core.Bool.{Bool, true, false, _&&_}
+use mathlib.Core.Bool.{Bool, true, false, not, _&&_}
 use Prim.Native.Nat.{ℕ, zero, suc, _+_, _<_}
 use native.Mathlib.Nat.{not-suc-le-zero}
 use native.Mathlib.Numerals.{add-one}
 use native.Mathlib.Omega.{arith}
 use lib.Dec.{T}
+use borrow.Author.Tests.{not-true, not-false}
 use Rattle.base.specs.Below.{below}
 use Rattle.base.proofs.Cases.{by-bool, by-eq}
 use Rattle.base.proofs.Picks.{both-held, both-hold}
@@ -60,3 +61,10 @@ below-fails f (suc n) k h e =
 pub below-some : {P : Type 0} (f : ℕ → Bool) (n : ℕ) → below f n ≡ false → ((k : ℕ) → k < n → f k ≡ false → P) → P
 below-some f zero e one = let z : _≡_ {A = ℕ} 0 1 = cc in absurd (omega arith)
 below-some f (suc n) e one = by-bool (f n) (λ t. below-some f n (rw t at e) (λ k l. one k (omega arith))) (λ d. one n (omega arith) d)
+
+-- a number at which it passes, or none
+pub by-below : {P : Type 0} (f : ℕ → Bool) (n : ℕ) → ((k : ℕ) → k < n → f k ≡ true → P) → (((k : ℕ) → k < n → f k ≡ false) → P) → P
+by-below f n some none =
+    by-bool (below (λ k. not (f k)) n)
+    (λ all. none (λ k h. not-true (f k) (below-means (λ k. not (f k)) n all k h)))
+    (λ one. below-some (λ k. not (f k)) n one (λ k h e. some k h (not-false (f k) e)))

@@ -4,3 +4,4 @@ pub mod Below
 pub mod Parts
 pub mod Runs
 pub mod Filling
+pub mod Puts

@@ -23,7 +23,7 @@ use Rattle.paper.specs.Paper.{soundWord, sampleBy, countBy, countSaid, modeSaid
 use Rattle.paper.specs.Paper.{slotPlace}
 use Rattle.paper.specs.Bytes.{compared}
 use Rattle.promises.specs.Refusals.{Table, _if_, _else_, none, FirstFault, Some, WrongDsf, VsDisagrees, Flagged, vsByte, SomeInHalf, asByte, AsBreaks}
-use Rattle.promises.specs.Refusals.{ssybAt, WrongFirst, Differs, DifferInHalf, AsDiffer, checked, soundTable, audioTable}
+use Rattle.promises.specs.Refusals.{ssybAt, WrongFirst, Differs, DifferInHalf, AsDiffer, checked, sounded, none, audioTable}
 use Rattle.promises.specs.Refusals.{surveyTable, salvageTable, checkTable, macroblockTable, timeTable}
 use Rattle.promises.specs.Refusals.WrongFirst.{wrongTimeHeader, wrongDigit, wrongGroupHeader}
 use Rattle.promises.specs.Refusals.Differs.{otherTime, otherGroup}
@@ -286,7 +286,7 @@ time-gives {k} {f} {g} {r} s = record {
 
 -- ---- audioTable
 
-pub audio-gives : {k : ℕ} {f g : List ℕ} {c room r : ℕ} → SameButAudio k f g → Gives r (soundTable k f c) (soundTable k g c)
+pub audio-gives : {k : ℕ} {f g : List ℕ} {c room r : ℕ} → SameButAudio k f g → Gives r (sounded k f c none) (sounded k g c none)
     → Gives r (audioTable k f c room) (audioTable k g c room)
 audio-gives s rest = frame-gives s (row-gives (row-gives (checked-gives s rest)))
 
@@ -358,7 +358,7 @@ module _ {k : ℕ} {f g : List ℕ} {c : ℕ} (s : SameAs k f g c) where
   as-differ-to = ⊎-elim (λ d. inl (differ-to count-same d)) (λ d. inr (differ-to mode-same d))
 
 -- an audio channel whose AS packs are the same
-pub sound-gives : {k : ℕ} {f g : List ℕ} {c r : ℕ} → SameButAudio k f g → SameAs k f g c → Gives r (soundTable k f c) (soundTable k g c)
+pub sound-gives : {k : ℕ} {f g : List ℕ} {c r : ℕ} → SameButAudio k f g → SameAs k f g c → Gives r (sounded k f c none) (sounded k g c none)
 sound-gives s a =
     let back = same-as-sym a in
     else-gives (same-if 23 (flag-to s 5 (omega arith)) (flag-to (apart-sym s) 5 (omega arith)))

@@ -3,19 +3,23 @@ use mathlib.Core.Path.{_≡_, refl, sym, subst, _∙_, ap}
 use mathlib.Core.Bool.{Bool, true, false, not}
 use mathlib.Core.List.{List, [], _∷_}
 use mathlib.Core.Logic.{inl, inr, ⊎-elim, _≢_, _⊎_}
-use Prim.Native.Nat.{ℕ, _<_, _*_}
+use Prim.Native.Nat.{ℕ, suc, _<_, _*_}
 use native.Mathlib.Omega.{arith}
-use lib.Dec.{eqb}
-use borrow.Author.Tests.{eq-eqb, ne-eqb, eqb-true, eqb-false, not-true, not-false}
+use lib.Dec.{eqb, leb}
+use lib.IntN.{ℤ, pos, negsuc}
+use lib.ListN.{getD}
+use borrow.Author.Tests.{eq-eqb, ne-eqb, eqb-true, eqb-false, leb-true, leb-false, not-true, not-false}
 use Rattle.base.specs.Calls.{Refusal, firstOf, _when_}
-use Rattle.base.proofs.Cases.{by-bool, by-eq}
-use Rattle.base.proofs.Picks.{first-here, first-next}
+use Rattle.base.proofs.Cases.{by-bool, by-eq, clash}
+use Rattle.base.proofs.Picks.{both-held, first-here, first-next}
 use Rattle.paper.specs.declared.System.{System}
 use Rattle.paper.specs.declared.SystemNumber.{SystemNumber}
 use Rattle.paper.specs.declared.SystemNumber.the-variants.{Known, NoSystem}
 use Rattle.rules_format.specs.Systems.{systemOf, isNoSystem, sequencesOf}
-use Rattle.promises.specs.Refusals.{Table, _if_, _else_, none}
+use Rattle.rules_format.specs.Samples.{inRange, allInRange}
+use Rattle.promises.specs.Refusals.{Table, _if_, _else_, none, Outside, SomeOutside}
 use Rattle.rules_format.proofs.Paper.{known-below, none-above, columns}
+use Rattle.rules_format.proofs.Samples.{all-in}
 use Rattle.paper.specs.Paper.{sequences}
 
 -- the table gives n, and no other number
@@ -97,3 +101,31 @@ pub row-length : (k : ℕ) (y : System) → systemOf k ≡ Known y → (size : �
     → Exactly (2 if (size ≢ 48000 * sequences k) else table) (firstOf (2 when not (eqb size (48000 * sequencesOf y)) ∷ rows))
 row-length k y known size table rows rest =
     row-differs 2 size (48000 * sequencesOf y) (48000 * sequences k) table rows (ap (λ (n : ℕ). 48000 * n) (columns k y known .sequences-is)) rest
+
+-- ---- 31: "a sample outside -32,768 to 32,768"
+
+range-or : (z : ℤ) → inRange z ≡ false → Outside z
+unfolding inRange
+range-or (pos v) e = leb-false v 32768 e
+range-or (negsuc v) e = by-bool (leb v 32767) (λ t. absurd (clash refl (rw t at e))) (λ d. leb-false v 32767 d)
+
+range-clash : (z : ℤ) → inRange z ≡ true → Outside z → ⊥
+unfolding inRange
+range-clash (pos v) e o = omega (arith, o, leb-true v 32768 e)
+range-clash (negsuc v) e o = omega (arith, o, leb-true v 32767 (both-held (leb v 32767) true e .0))
+
+some-outside : (sound : List ℤ) → allInRange sound ≡ false → SomeOutside sound
+unfolding allInRange
+some-outside [] e = let z : _≡_ {A = ℕ} 0 1 = cc in absurd (omega arith)
+some-outside (x ∷ xs) e =
+    by-bool (inRange x)
+    (λ t. let o = some-outside xs (rw t at e) in record { i = suc (o .i); within = omega (arith, o .within); outside = o .outside })
+    (λ d. record { i = 0; within = omega arith; outside = range-or x d })
+
+pub row-outside : (sound : List ℤ) (table : Table) (rows : List Refusal) → (allInRange sound ≡ true → Exactly table (firstOf rows))
+    → Exactly (31 if SomeOutside sound else table) (firstOf (31 when not (allInRange sound) ∷ rows))
+row-outside sound table rows rest =
+    row-exactly 31 (not (allInRange sound)) table rows
+    (λ e. some-outside sound (not-true _ e))
+    (λ e o. range-clash (getD sound (o .i) (pos 0)) (all-in sound (o .i) (not-false _ e) (o .within)) (o .outside))
+    (λ e. rest (not-false _ e))

@@ -17,7 +17,7 @@ use Rattle.paper.specs.declared.TimeAnswer.{TimeAnswer}
 use Rattle.rules_format.specs.Ids.{idValues}
 use Rattle.promises.specs.Contents.{Contents}
 use Rattle.promises.specs.Refusals.{Table, idTable, surveyTable, salvageTable, sequenceTable, viewTable, checkTable, audioTable, macroblockTable}
-use Rattle.promises.specs.Refusals.{timeTable, writeTable}
+use Rattle.promises.specs.Refusals.{timeTable, replaceTable, writeTable}
 
 -- a call on one input: an outcome is its answer with the buffers as it left them, and meets its contract; it answers a number; the table is
 -- document 01's for this call and input; Quiet is what a refusal has to be
@@ -100,6 +100,11 @@ SalvageAnswers Contract =
     → Answers (Survey × List ℤ × List ℕ) (λ o. Contract k frame samples list (o .0) (o .1) (o .2)) (λ o. o .0 .number)
     (salvageTable k (length frame) (length samples))
     (λ o. o ≡ (record { number = o .0 .number; total = 0; kept = 0 }, samples, list))
+
+abbrev pub ReplaceAnswers : (ℕ → List ℕ → ℕ → List ℤ → ℕ → List ℕ → Type 0) → Type 0
+ReplaceAnswers Contract =
+    (k : ℕ) (frame : List ℕ) (c : ℕ) (samples : List ℤ)
+    → Answers (ℕ × List ℕ) (λ o. Contract k frame c samples (o .0) (o .1)) (λ o. o .0) (replaceTable k frame c samples) (λ o. o .1 ≡ frame)
 
 abbrev pub WriteAnswers : (ℕ → Contents → List ℕ → ℕ → List ℕ → Type 0) → Type 0
 WriteAnswers Contract =

@@ -170,12 +170,12 @@ abbrev pub checkTable : ℕ → List ℕ → Table
 checkTable k f = 1 if (3 < k) else 2 if (length f ≢ 48000 * sequences k) else checked k f none
 
 -- "audio read adds 23-25"
-abbrev pub soundTable : ℕ → List ℕ → ℕ → Table
-soundTable k f c =
+abbrev pub sounded : ℕ → List ℕ → ℕ → Table → Table
+sounded k f c rows =
     23 if Some (sequences k) (Flagged 5 (sequences k) f)
     else 24 if SomeInHalf (sequences k) c (AsBreaks k f c)
     else 25 if AsDiffer (sequences k) f c
-    else none
+    else rows
 
 -- "audio read, the system's positions"
 abbrev pub audioTable : ℕ → List ℕ → ℕ → ℕ → Table
@@ -184,7 +184,27 @@ audioTable k f c room =
     else 2 if (length f ≢ 48000 * sequences k)
     else 3 if ((c ≡ 0) ⊎ (8 < c))
     else 4 if (room ≢ positions k)
-    else checked k f (soundTable k f c)
+    else checked k f (sounded k f c none)
+
+-- the count and the mode that audio channel c says, in its first AS
+abbrev pub countStored : ℕ → List ℕ → ℕ → ℕ
+countStored k f c = countSaid (sequences k) f (soundChannel c) (soundFirst (sequences k) c)
+
+abbrev pub modeStored : ℕ → List ℕ → ℕ → ℕ
+modeStored k f c = modeSaid (sequences k) f (soundChannel c) (soundFirst (sequences k) c)
+
+-- of replacing audio channel c "those of the audio read, but no 4 for the sample list; then new 29, a sample list whose length is not the stored count;
+-- then 31; then new 33, a channel marked 1111"
+abbrev pub replaceTable : ℕ → List ℕ → ℕ → List ℤ → Table
+replaceTable k f c samples =
+    1 if (3 < k)
+    else 2 if (length f ≢ 48000 * sequences k)
+    else 3 if ((c ≡ 0) ⊎ (8 < c))
+    else checked k f (sounded k f c (
+      29 if (length samples ≢ countStored k f c)
+      else 31 if SomeOutside samples
+      else 33 if (modeStored k f c ≡ 0xF)
+      else none))
 
 -- "macroblock read 23"
 abbrev pub macroblockTable : ℕ → List ℕ → ℕ → Table

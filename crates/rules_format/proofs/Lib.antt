@@ -9,5 +9,6 @@ pub mod Reading
 pub mod Judging
 pub mod Paper
 pub mod Numbers
+pub mod Starts
 pub mod Known
 pub mod Headlines

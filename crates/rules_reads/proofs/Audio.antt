@@ -11,7 +11,7 @@ use lib.IntN.{ℤ, pos}
 use lib.ListN.{length, getD, drop, List·getD-append}
 use lib.Seq.{getD-append-add, getD-drop}
 use borrow.Author.Tests.{eq-eqb, ne-eqb, eqb-true, not-false}
-use Rattle.base.specs.Calls.{firstOf, ExactlyOne}
+use Rattle.base.specs.Calls.{Refusal, firstOf, ExactlyOne}
 use Rattle.base.specs.Pick.{pick}
 use Rattle.base.specs.Run.{tab}
 use Rattle.base.proofs.Cases.{by-bool, by-eq}
@@ -66,7 +66,12 @@ module _ (y : System) (frame : List ℕ) (c : ℕ) where
       let d = first-zero _ _ _ (b .1) in
       (not-false _ (a .0), not-false _ (b .0), not-false _ (d .0))
 
-  -- and then the count that is answered is one of the system's own, below its positions
+  -- and then the rows that follow decide
+  pub audio-on : (more : List Refusal) → firstOf (audioRows y frame c) ≡ 0 → firstOf (audioRows y frame c ++ more) ≡ firstOf more
+  unfolding audioRows firstOf pick
+  audio-on more z = let m = audio-mean z in rw (m .0, m .1, m .2) refl
+
+  -- and the count that is answered is one of the system's own, below its positions
   pub count-own : everyInHalf y frame c (asKeeps y c) ≡ true → isCount y (countFor y frame c) ≡ true
   unfolding firstAs
   count-own e =

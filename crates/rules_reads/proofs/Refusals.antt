@@ -19,7 +19,7 @@ use Rattle.rules_reads.specs.Audio.{isAudio, audioRows, audioNumber}
 use Rattle.rules_reads.specs.Macroblock.{pictureRows, macroblockNumber}
 use Rattle.rules_reads.specs.Time.{timeRows, timeNumber}
 use Rattle.paper.specs.Paper.{sequences, positions}
-use Rattle.promises.specs.Refusals.{Table, _if_, _else_, none, FirstFault, Some, WrongDsf, Flagged, checked, checkTable, audioTable, macroblockTable}
+use Rattle.promises.specs.Refusals.{Table, _if_, _else_, none, FirstFault, Some, WrongDsf, Flagged, checked, sounded, checkTable, audioTable, macroblockTable}
 use Rattle.promises.specs.Refusals.{timeTable, VsDisagrees}
 use Rattle.rules_format.proofs.Paper.{columns}
 use Rattle.promises.proofs.Tables.{Exactly, exactly-none, row-exactly, row-differs, row-fault, row-system, row-length}
@@ -29,7 +29,7 @@ use Rattle.rules_reads.proofs.GroundsTime.{row-26, row-27}
 
 -- ---- the rows of every strict read
 
-checked-exactly : (k : ℕ) (y : System) → systemOf k ≡ Known y → (f : List ℕ) → length f ≡ 48000 * sequencesOf y → (table : Table) (rows : List Refusal)
+pub checked-exactly : (k : ℕ) (y : System) → systemOf k ≡ Known y → (f : List ℕ) → length f ≡ 48000 * sequencesOf y → (table : Table) (rows : List Refusal)
     → Exactly table (firstOf rows) → Exactly (checked k f table) (firstOf (checkRows y f ++ rows))
 unfolding checkRows
 checked-exactly k y known f whole table rows rest =
@@ -67,8 +67,20 @@ audio-not c e =
     let two = both-held (ltb 0 c) (ltb c 9) (not-false _ e) in
     ⊎-elim (λ z. omega (arith, z, ltb-true 0 c (two .0))) (λ l. omega (arith, l, ltb-true c 9 (two .1)))
 
+-- 3, of an audio channel
+pub row-audio : (c : ℕ) (table : Table) (rows : List Refusal) → Exactly table (firstOf rows)
+    → Exactly (3 if ((c ≡ 0) ⊎ (8 < c)) else table) (firstOf (3 when not (isAudio c) ∷ rows))
+row-audio c table rows rest = row-exactly 3 (not (isAudio c)) table rows (audio-means c) (audio-not c) (λ channel. rest)
+
+-- 23 to 25
+pub sounded-exactly : (k : ℕ) (y : System) → systemOf k ≡ Known y → (f : List ℕ) (c : ℕ) (table : Table) (rows : List Refusal) → Exactly table (firstOf rows)
+    → Exactly (sounded k f c table) (firstOf (audioRows y f c ++ rows))
+unfolding audioRows
+sounded-exactly k y known f c table rows rest =
+    row-23 k y known f 1 (omega arith) _ _ (row-24 k y known f c _ _ (λ kept. row-25 k y known f c table rows rest))
+
 pub audio-exactly : (k : ℕ) (f : List ℕ) (c room : ℕ) → Exactly (audioTable k f c room) (audioNumber k f c room)
-unfolding audioNumber audioRows
+unfolding audioNumber
 audio-exactly k f c room =
     row-system k _
     (λ s.
@@ -78,10 +90,10 @@ audio-exactly k f c room =
     ∷ rowsIn s (λ (y : System). checkRows y f ++ audioRows y f c))
     (λ y known.
     row-length k y known (length f) _ _ (λ whole.
-    row-exactly 3 (not (isAudio c)) _ _ (audio-means c) (audio-not c) (λ channel.
+    row-audio c _ _ (
     row-differs 4 room (positionsOf y) (positions k) _ _ (columns k y known .positions-is) (λ fits.
     checked-exactly k y known f whole _ (audioRows y f c)
-    (row-23 k y known f 1 (omega arith) _ _ (row-24 k y known f c _ _ (λ kept. row-25 k y known f c none [] exactly-none)))))))
+    (subst (λ (rows : List Refusal). Exactly (sounded k f c none) (firstOf rows)) (append-nil (audioRows y f c)) (sounded-exactly k y known f c none [] exactly-none))))))
 
 -- ---- macroblock_number, macroblock, macroblock_at
 

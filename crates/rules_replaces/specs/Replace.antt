@@ -1,8 +1,8 @@
 -- The call `replace_audio`: "a call that replaces one channel's samples in an accepted frame".
 use mathlib.Core.Path.{_≡_}
-use mathlib.Core.Bool.{not}
+use mathlib.Core.Bool.{true, false, not}
 use mathlib.Core.List.{List, [], _∷_, _++_}
-use Prim.Native.Nat.{ℕ, _+_}
+use Prim.Native.Nat.{ℕ, _+_, _*_}
 use lib.Dec.{eqb}
 use lib.IntN.{ℤ, pos}
 use lib.ListN.{length, getD}
@@ -10,7 +10,7 @@ use Rattle.base.specs.Calls.{Refusal, firstOf, _when_}
 use Rattle.base.specs.Pick.{pick}
 use Rattle.base.specs.Put.{putAt, turns}
 use Rattle.paper.specs.declared.System.{System}
-use Rattle.rules_format.specs.Systems.{halfOf, inSystem, systemOf, isNoSystem, rowsIn, frameBytes}
+use Rattle.rules_format.specs.Systems.{sequencesOf, halfOf, inSystem, systemOf, isNoSystem, rowsIn, frameBytes}
 use Rattle.rules_format.specs.Blocks.{startOf}
 use Rattle.rules_format.specs.Samples.{allInRange, wordFor, bytesOf}
 use Rattle.rules_format.specs.Sound.{difOf, sequenceOf, soundPlace, byteOf}
@@ -57,3 +57,13 @@ replaceLeft k frame c samples = pick (eqb (replaceNumber k frame c samples) 0) (
 pub record Replaced (k : ℕ) (frame : List ℕ) (c : ℕ) (samples : List ℤ) (r : ℕ) (frame′ : List ℕ) : Type 0 where
   pub answer : r ≡ replaceNumber k frame c samples
   pub left : frame′ ≡ replaceLeft k frame c samples
+
+-- what the call takes
+pub record Takes (y : System) (frame : List ℕ) (c : ℕ) (samples : List ℤ) : Type 0 where
+  pub whole : length frame ≡ 48000 * sequencesOf y
+  pub channel : isAudio c ≡ true
+  pub checks : firstOf (checkRows y frame) ≡ 0
+  pub hears : firstOf (audioRows y frame c) ≡ 0
+  pub counts : length samples ≡ countFor y frame c
+  pub levels : allInRange samples ≡ true
+  pub recorded : isMarked y frame c ≡ false

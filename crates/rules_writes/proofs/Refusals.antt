@@ -20,39 +20,11 @@ use Rattle.rules_writes.specs.Write.{lengthsOk, countOk, clockTaken, wri
 use Rattle.promises.specs.Refusals.{Table, _if_, _else_, none, WrongLengths, writeTable, Outside, SomeOutside}
 use Rattle.paper.specs.Bytes.{WrongTime}
 use Rattle.rules_format.proofs.Paper.{columns}
-use Rattle.promises.proofs.Tables.{Exactly, exactly-none, row-exactly, row-system, row-length}
+use Rattle.promises.proofs.Tables.{Exactly, exactly-none, row-exactly, row-system, row-length, row-outside}
 use Rattle.rules_packs.proofs.Judged.{own-means, own-when, taken-wrong, taken-right}
 use Rattle.rules_packs.specs.TimeCode.{timeTaken, timePack}
 use lib.IntN.{ℤ, pos, negsuc}
 use Rattle.rules_format.proofs.Samples.{all-in}
-
--- ---- 31
-
-range-or : (z : ℤ) → inRange z ≡ false → Outside z
-unfolding inRange
-range-or (pos v) e = leb-false v 32768 e
-range-or (negsuc v) e = by-bool (leb v 32767) (λ t. absurd (clash refl (rw t at e))) (λ d. leb-false v 32767 d)
-
-range-clash : (z : ℤ) → inRange z ≡ true → Outside z → ⊥
-unfolding inRange
-range-clash (pos v) e o = omega (arith, o, leb-true v 32768 e)
-range-clash (negsuc v) e o = omega (arith, o, leb-true v 32767 (both-held (leb v 32767) true e .0))
-
-some-outside : (sound : List ℤ) → allInRange sound ≡ false → SomeOutside sound
-unfolding allInRange
-some-outside [] e = let z : _≡_ {A = ℕ} 0 1 = cc in absurd (omega arith)
-some-outside (x ∷ xs) e =
-    by-bool (inRange x)
-    (λ t. let o = some-outside xs (rw t at e) in record { i = suc (o .i); within = omega (arith, o .within); outside = o .outside })
-    (λ d. record { i = 0; within = omega arith; outside = range-or x d })
-
-row-31 : (sound : List ℤ) (table : Table) (rows : List Refusal) → (allInRange sound ≡ true → Exactly table (firstOf rows))
-    → Exactly (31 if SomeOutside sound else table) (firstOf (31 when not (allInRange sound) ∷ rows))
-row-31 sound table rows rest =
-    row-exactly 31 (not (allInRange sound)) table rows
-    (λ e. some-outside sound (not-true _ e))
-    (λ e o. range-clash (getD sound (o .i) (pos 0)) (all-in sound (o .i) (not-false _ e) (o .within)) (o .outside))
-    (λ e. rest (not-false _ e))
 
 -- ---- 32
 
@@ -111,4 +83,4 @@ write-exactly k l size =
     (λ e own. clash (own-when k y known (l .count) own) (not-true _ e))
     (λ e d. d (own-means k y known (l .count) (not-false _ e))) (λ counted.
     row-exactly 4 (not (lengthsOk l y)) _ _ (λ e. lengths-means k y known l (not-true _ e)) (λ e. lengths-not k y known l (not-false _ e)) (λ lengths.
-    row-31 (l .sound) _ _ (λ sampled. row-32 k y known (l .timeCode) none [] (λ clocked. exactly-none))))))
+    row-outside (l .sound) _ _ (λ sampled. row-32 k y known (l .timeCode) none [] (λ clocked. exactly-none))))))

@@ -1,0 +1,4 @@
+pub mod Replace
+pub mod Refusals
+pub mod Answering
+pub mod Headlines
