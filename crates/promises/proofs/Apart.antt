@@ -23,7 +23,7 @@ use Rattle.paper.specs.Paper.{soundWord, sampleBy, countBy, countSaid, modeSaid
 use Rattle.paper.specs.Paper.{slotPlace}
 use Rattle.paper.specs.Bytes.{compared}
 use Rattle.promises.specs.Refusals.{Table, _if_, _else_, none, FirstFault, Some, WrongDsf, VsDisagrees, Flagged, vsByte, SomeInHalf, asByte, AsBreaks}
-use Rattle.promises.specs.Refusals.{ssybAt, WrongFirst, Differs, DifferInHalf, AsDiffer, checked, sounded, none, audioTable}
+use Rattle.promises.specs.Refusals.{ssybAt, WrongFirst, Differs, DifferInHalf, AsDiffer, checked, sounded, audioTable}
 use Rattle.promises.specs.Refusals.{surveyTable, salvageTable, checkTable, macroblockTable, timeTable}
 use Rattle.promises.specs.Refusals.WrongFirst.{wrongTimeHeader, wrongDigit, wrongGroupHeader}
 use Rattle.promises.specs.Refusals.Differs.{otherTime, otherGroup}
@@ -68,6 +68,17 @@ pub if-leads : {Holds Holds′ : Type 0} {rows rows′ : Table} {r : ℕ} (numbe
     → Leads r (number if Holds else rows) (number if Holds′ else rows′)
 if-leads number some from = zero-leads (λ h. some (sym (h .0))) (λ s h. (h .0, from (h .1)))
 
+-- ---- the bytes of a block that are the same
+
+pub bytes-alike : {n : ℕ} (f g : List ℕ) → length g ≡ length f → length f ≡ 48000 * n → (h q p i m : ℕ) → h < 4 → q < n → p < 150 → i + m ≤ 80
+    → ((b : ℕ) → b < m → byteAt n g h q p (i + b) ≡ byteAt n f h q p (i + b)) → bytesAt n g h q p i m ≡ bytesAt n f h q p i m
+bytes-alike {n} f g size whole h q p i m hh hq hp hi same =
+    let a = start n h q p + i in
+    let fits : a + m ≤ length f = omega (arith, whole, hi, hp, hq, before-channel n h hh) in
+    sym (tab-part 0 g a m (omega (arith, fits, size)))
+    ∙ tab-same _ _ m (λ b l. let e : start n h q p + (i + b) ≡ a + b = omega arith in rw e at (same b l))
+    ∙ tab-part 0 f a m fits
+
 -- ---- SameButAudio: the bytes that are the same
 
 pub apart-sym : {k : ℕ} {f g : List ℕ} → SameButAudio k f g → SameButAudio k g f
@@ -98,13 +109,7 @@ module _ {k : ℕ} {f g : List ℕ} (s : SameButAudio k f g) where
   -- a run of them
   pub bytes-same : length f ≡ 48000 * n → (h q p i m : ℕ) → h < 4 → q < n → p < 150 → i + m ≤ 80 → sectionAt p ≢ 3 → bytesAt n g h q p i m ≡ bytesAt n f h q p i m
   bytes-same whole h q p i m hh hq hp hi d =
-      let a = start n h q p + i in
-      let fits : a + m ≤ length f = omega (arith, whole, hi, hp, hq, before-channel n h hh) in
-      sym (tab-part 0 g a m (omega (arith, fits, s .size)))
-      ∙ tab-same _ _ m (λ b l.
-      let e : start n h q p + (i + b) ≡ a + b = omega arith in
-      rw e at (byte-same h q p (i + b) hh hq hp (omega (arith, l, hi)) d))
-      ∙ tab-part 0 f a m fits
+      bytes-alike f g (s .size) whole h q p i m hh hq hp hi (λ b l. byte-same h q p (i + b) hh hq hp (omega (arith, l, hi)) d)
 
   -- the fault of a block of the stream
   pub fault-same : (j i : ℕ) → j < 600 * n → streamFault n g j i ≡ streamFault n f j i

@@ -5,4 +5,6 @@ pub mod One
 pub mod OneNumber
 pub mod Apart
 pub mod Unrecorded
+pub mod Commentary
+pub mod LaidAgain
 pub mod Headlines
