@@ -24,6 +24,7 @@ use Rattle.promises.specs.Unrecorded.{Marks, every, ComesBackLost, SameButAudio
 use Rattle.promises.proofs.Apart.{Gives, SameAs, survey-gives, salvage-gives, check-gives, macroblock-gives, time-gives, audio-gives, sound-gives, count-same, mode-same}
 use Rattle.promises.proofs.Apart.{some-sequence, low-section, low-same, bytes-same, slot-section, word-same, listed-same, salvage-out-same}
 use Rattle.promises.proofs.Unrecorded.{marks-aaux, marks-as, every-leads, some-leads, marked-count, marked-mode}
+use Rattle.promises.proofs.Tables.{row-past}
 use Rattle.promises.proofs.One.{lists-one, listed-one, salvage-out-one}
 use Rattle.rules_format.specs.Systems.{systemOf}
 use Rattle.rules_format.proofs.Systems.{macroblocks-some}
@@ -54,15 +55,12 @@ alike {answered = answered} {o = o} {o′ = o′} a a′ gives m m′ zero =
     let same : answered o ≡ answered o′ = a′ .no-other o′ m′ (answered o) (gives .too (a .numbered o m)) in
     by-eq (answered o) 0 (λ z. zero z (sym same ∙ z)) (λ d. a .told o o′ d same (a .refused o m d) (a′ .refused o′ m′ (λ z. d (same ∙ z))))
 
--- where a table gives 0, no row before its last holds: the system is known, and the frame has its length
-past : {number : ℕ} {Holds Rest : Type 0} → number ≢ 0 → ((0 ≡ number) × Holds) ⊎ (((s : ℕ) → (s ≡ number) × Holds → ⊥) × Rest) → (Holds → ⊥) × Rest
-past {number} some = ⊎-elim (λ h. absurd (some (sym (h .0)))) (λ p. ((λ h. p .0 number (refl, h)), p .1))
-
+-- where a table gives 0, the system is known, and the frame has its length
 first-rows : {k size : ℕ} {Rest : Type 0} → (1 if (3 < k) else 2 if (size ≢ 48000 * sequences k) else (λ (r : ℕ). Rest)) 0
     → (k < 4) × (size ≡ 48000 * sequences k)
 first-rows {k} {size} t =
-    let one = past (λ e. omega (arith, e)) t in
-    let two = past (λ e. omega (arith, e)) (one .1) in
+    let one = row-past (λ e. omega (arith, e)) t in
+    let two = row-past (λ e. omega (arith, e)) (one .1) in
     (by-lt k 4 (λ l. l) (λ above. absurd (one .0 above)), by-eq size (48000 * sequences k) (λ e. e) (λ d. absurd (two .0 d)))
 
 -- two outcomes that are the same are so in each part

@@ -7,4 +7,5 @@ pub mod Apart
 pub mod Unrecorded
 pub mod Commentary
 pub mod LaidAgain
+pub mod Holding
 pub mod Headlines

@@ -38,6 +38,14 @@ exactly-here row rows n here one = record { gives = inl here; only = λ r. ⊎-e
 exactly-past : (row rows : Table) (n : ℕ) → ((r : ℕ) → row r → ⊥) → Exactly rows n → Exactly (row else rows) n
 exactly-past row rows n never e = record { gives = inr (never, e .gives); only = λ r. ⊎-elim (λ here. absurd (never r here)) (λ past. e .only r (past .1)) }
 
+-- where a table gives 0, no row before its last holds
+pub row-past : {number : ℕ} {Holds Rest : Type 0} → number ≢ 0 → ((0 ≡ number) × Holds) ⊎ (((s : ℕ) → (s ≡ number) × Holds → ⊥) × Rest) → (Holds → ⊥) × Rest
+row-past {number} some = ⊎-elim (λ h. absurd (some (sym (h .0)))) (λ p. ((λ h. p .0 number (refl, h)), p .1))
+
+-- and back
+pub row-on : {number : ℕ} {Holds Rest : Type 0} → (Holds → ⊥) → Rest → ((0 ≡ number) × Holds) ⊎ (((s : ℕ) → (s ≡ number) × Holds → ⊥) × Rest)
+row-on none rest = inr ((λ s h. none (h .1)), rest)
+
 -- ---- a row of a list of tests
 
 -- what it is given for holds exactly where the test does

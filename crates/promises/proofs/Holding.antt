@@ -1,0 +1,174 @@
+-- What a frame in the writer's form holds, and that with one audio channel exchanged the writer takes it. Assumes nothing.
+use mathlib.Core.Path.{_≡_, refl, sym, ap, _∙_, subst}
+use mathlib.Core.List.{List}
+use mathlib.Core.Logic.{_⊎_, inl, inr, ⊎-elim, _≢_}
+use Prim.Native.Nat.{ℕ, _+_, _-_, _*_, _/_, _%_, _≤_, _<_}
+use native.Mathlib.Nat.{div-add-mod', mod-lt, div-lt-iff-lt-mul}
+use native.Mathlib.Omega.{arith}
+use lib.Dec.{leb, eqb}
+use lib.IntN.{ℤ, pos, negsuc}
+use lib.ListN.{length, getD, take, drop}
+use borrow.Author.Tests.{le-leb, lt-leb, ne-eqb}
+use Rattle.base.specs.Pick.{pick}
+use Rattle.base.specs.Put.{putAt}
+use Rattle.base.proofs.Cases.{by-lt, by-eq}
+use Rattle.base.proofs.Parts.{length-part}
+use Rattle.base.proofs.Puts.{put-length, put-before, put-here, put-after}
+use Rattle.base.proofs.Runs.{end-within}
+use Rattle.paper.specs.Paper.{sequences, macroblocks, rate, start, byteAt, bytesAt, soundStart, soundWord, sampleBy, wordBy, countSaid}
+use Rattle.paper.specs.Bytes.{OwnCount, WrongClock, WrongTime}
+use Rattle.promises.specs.Contents.{Contents}
+use Rattle.promises.specs.Form.{HasForm}
+use Rattle.promises.specs.Demand2.{given, LaidOut}
+use Rattle.promises.specs.Refusals.{Outside, SomeOutside, WrongFirst, timeTable, writeTable}
+use Rattle.promises.specs.Refusals.WrongFirst.{wrongDigit}
+use Rattle.promises.specs.Commentary.{FrameHolds, Changed}
+use Rattle.promises.proofs.Tables.{row-past, row-on}
+use Rattle.promises.proofs.Apart.{some-sequence}
+use Rattle.promises.proofs.LaidOut.{cut-byte}
+
+-- ---- sampleBy: a word is told from its sample
+
+pub word-again : (w : ℕ) → w < 65536 → wordBy (sampleBy w) ≡ w
+unfolding sampleBy wordBy pick
+word-again w h =
+    by-lt 0x8000 w
+    (λ above. let v : 0xFFFF - w ≢ 32767 = omega arith in rw (lt-leb w 0x8000 above, ne-eqb (0xFFFF - w) 32767 v) (omega arith))
+    (λ low. rw (le-leb w 0x8000 low) refl)
+
+-- and is in range
+sample-inside : (w : ℕ) → w < 65536 → Outside (sampleBy w) → ⊥
+unfolding sampleBy pick
+sample-inside w h =
+    by-lt 0x8000 w
+    (λ above. rw (lt-leb w 0x8000 above) (λ o. omega arith))
+    (λ low. rw (le-leb w 0x8000 low) (λ o. omega arith))
+
+-- ---- FrameHolds: a frame in the form is laid out of what it holds
+
+module _ {k : ℕ} {f : List ℕ} {l : Contents} (form : HasForm k f) (bytes : (i : ℕ) → getD f i 0 < 256) (holds : FrameHolds k f l) where
+  word-small : (c t : ℕ) → soundWord (sequences k) f c t < 65536
+  word-small c t = omega (arith, bytes (soundStart (sequences k) c t), bytes (soundStart (sequences k) c t + 1))
+
+  pub held-laid : LaidOut k l f
+  held-laid = record {
+    form = form;
+    count = sym (holds .count);
+    time = sym (holds .time);
+    group = sym (holds .group);
+    high = λ c t c1 c8 h.
+        let same : wordBy (given l c t) ≡ soundWord (sequences k) f c t = ap wordBy (holds .sample c t c1 c8 h) ∙ word-again _ (word-small c t) in
+        omega (arith, same, bytes (soundStart (sequences k) c t + 1));
+    low = λ c t c1 c8 h.
+        let same : wordBy (given l c t) ≡ soundWord (sequences k) f c t = ap wordBy (holds .sample c t c1 c8 h) ∙ word-again _ (word-small c t) in
+        omega (arith, same, bytes (soundStart (sequences k) c t + 1));
+    macroblock = λ h q g m b hh hq hg hm e. sym (holds .macroblock h q g m b hh hq hg hm e);
+  }
+
+-- ---- writeTable: what gives 0
+
+-- a number of a lent slice is that of a position of an audio channel
+inside-all : (l : Contents) → length (l .sound) ≡ 8 * l .count → ((c t : ℕ) → 0 < c → c < 9 → t < l .count → Outside (given l c t) → ⊥) → SomeOutside (l .sound) → ⊥
+inside-all l sounds inside o =
+    let n : ℕ = l .count in
+    let i : ℕ = o .i in
+    let below : i < 8 * n = omega (arith, o .within, sounds) in
+    let some : 0 < n = omega (arith, below) in
+    let c : i / n < 8 = div-lt-iff-lt-mul some .1 below in
+    let at : (i / n + 1 - 1) * n + i % n ≡ i = ap (λ (x : ℕ). x * n + i % n) (omega arith) ∙ div-add-mod' i n in
+    inside (i / n + 1) (i % n) (omega arith) (omega (arith, c)) (mod-lt i some) (rw at (o .outside))
+
+write-zero : (k : ℕ) (l : Contents) (size : ℕ) → k < 4 → size ≡ 48000 * sequences k → OwnCount k (l .count) → length (l .sound) ≡ 8 * l .count
+    → length (l .macroblocks) ≡ 77 * macroblocks k → length (l .timeCode) ≡ 4 → length (l .binaryGroup) ≡ 4
+    → ((c t : ℕ) → 0 < c → c < 9 → t < l .count → Outside (given l c t) → ⊥) → (WrongTime k (l .timeCode) → ⊥) → writeTable k l size 0
+write-zero k l size below whole own sounds pictures time group inside right =
+    row-on (λ above. omega (arith, above, below))
+    (row-on (λ d. d whole)
+    (row-on (λ d. d own)
+    (row-on (⊎-elim (λ d. d sounds) (⊎-elim (λ d. d pictures) (⊎-elim (λ d. d time) (λ d. d group))))
+    (row-on (inside-all l sounds inside) (row-on right refl)))))
+
+-- ---- timeTable: where it gives 0, the time code of the frame keeps the rules
+
+time-right : {k : ℕ} {f : List ℕ} → timeTable k f 0 → WrongFirst k f → ⊥
+time-right {k} {f} t =
+    let two = row-past (λ e. omega (arith, e)) (row-past (λ e. omega (arith, e)) t .1) in
+    let clean = ⊎-elim (λ a. absurd (a .some refl)) (λ p. p .1) (two .1) in
+    let flags = row-past (λ e. omega (arith, e)) (row-past (λ e. omega (arith, e)) clean .1) in
+    row-past (λ e. omega (arith, e)) (row-past (λ e. omega (arith, e)) (flags .1) .1) .0
+
+-- what a frame holds is taken, where its time code is read
+pub held-taken : {k : ℕ} {f : List ℕ} {l : Contents} → k < 4 → HasForm k f → ((i : ℕ) → getD f i 0 < 256) → FrameHolds k f l → timeTable k f 0
+    → (size : ℕ) → size ≡ 48000 * sequences k → writeTable k l size 0
+held-taken {k} {f} {l} below form bytes holds read size whole =
+    let n : ℕ = sequences k in
+    let some = some-sequence k below .0 in
+    let four : (i : ℕ) → i < 76 → length (bytesAt n f 0 0 1 i 4) ≡ 4 = λ i h. length-part (start n 0 0 1 + i) 4 f (omega (arith, form .size, some, h)) in
+    let digit : (j : ℕ) → j < 4 → getD (l .timeCode) j 0 ≡ byteAt n f 0 0 1 (31 + j) = λ j h. rw (holds .time) (sym (cut-byte n f 0 0 1 31 4 j h)) in
+    write-zero k l size below whole (rw (holds .count) (form .own)) (holds .sounds) (holds .pictures) (rw (holds .time) (four 31 (omega arith))) (rw (holds .group) (four 39 (omega arith)))
+    (λ c t c1 c8 h. rw (holds .sample c t c1 c8 h) (sample-inside _ (word-small form bytes holds c t)))
+    (⊎-elim
+    (λ (bit : (rate k ≡ 1) × (getD (l .timeCode) 0 0 / 64 % 2 ≢ 1)). bit .1 (ap (λ (b : ℕ). b / 64 % 2) (digit 0 (omega arith)) ∙ form .bit-6 (bit .0)))
+    (λ (clock : WrongClock k _ _ _ _).
+    time-right read (wrongDigit (rw (digit 0 (omega arith), digit 1 (omega arith), digit 2 (omega arith), digit 3 (omega arith)) at clock))))
+
+-- ---- Changed: what was taken is taken with other samples, and there are such contents
+
+abbrev pub exchangedIn : Contents → ℕ → List ℤ → Contents
+exchangedIn l c samples = record {
+  count = l .count;
+  sound = putAt ((c - 1) * l .count) samples (l .sound);
+  macroblocks = l .macroblocks;
+  timeCode = l .timeCode;
+  binaryGroup = l .binaryGroup;
+}
+
+module _ (l : Contents) (c : ℕ) (samples : List ℤ) (c1 : 0 < c) (c8 : c < 9) (many : length samples ≡ l .count) (sounds : length (l .sound) ≡ 8 * l .count) where
+  -- a position's number in the lent slice
+  slice-below : (d t : ℕ) → 0 < d → d < 9 → t < l .count → (d - 1) * l .count + t < length (l .sound)
+  slice-below d t d1 d8 h = let b : d - 1 < 8 = omega arith in omega (arith, h, sounds, end-within (l .count) (d - 1) 8 b)
+
+  pub changed-taken : (k : ℕ) (l′ : Contents) (size : ℕ) → Changed l c samples l′ → (SomeOutside samples → ⊥) → writeTable k l size 0 → writeTable k l′ size 0
+  changed-taken k l′ size changed inside taken =
+      let one = row-past (λ e. omega (arith, e)) taken in
+      let two = row-past (λ e. omega (arith, e)) (one .1) in
+      let three = row-past (λ e. omega (arith, e)) (two .1) in
+      let four = row-past (λ e. omega (arith, e)) (three .1) in
+      let five = row-past (λ e. omega (arith, e)) (four .1) in
+      let six = row-past (λ e. omega (arith, e)) (five .1) in
+      let sounds′ : length (l′ .sound) ≡ 8 * l′ .count = changed .sounds ∙ sounds ∙ ap (λ (n : ℕ). 8 * n) (sym (changed .count)) in
+      row-on (one .0)
+      (row-on (two .0)
+      (row-on (rw (changed .count) (three .0))
+      (row-on
+      (⊎-elim (λ d. d sounds′)
+      (⊎-elim (λ d. four .0 (inr (inl (rw (changed .macroblocks) at d))))
+      (⊎-elim (λ d. four .0 (inr (inr (inl (rw (changed .time) at d))))) (λ d. four .0 (inr (inr (inr (rw (changed .group) at d))))))))
+      (row-on
+      (inside-all l′ sounds′ (λ d t d1 d8 h o.
+      let h′ : t < l .count = omega (arith, h, changed .count) in
+      by-eq d c
+      (λ own. inside (record { i = t; within = omega (arith, h′, many); outside = rw (changed .sample t h′) at (rw own at o) }))
+      (λ ne. five .0 (record { i = (d - 1) * l .count + t; within = slice-below d t d1 d8 h′; outside = rw (changed .others d t d1 d8 ne h′) at o }))))
+      (row-on (rw (changed .time) (six .0)) refl)))))
+
+  fits : (c - 1) * l .count + length samples ≤ length (l .sound)
+  fits = let b : c - 1 < 8 = omega arith in omega (arith, many, sounds, end-within (l .count) (c - 1) 8 b)
+
+  pub some-changed : Changed l c samples (exchangedIn l c samples)
+  some-changed = record {
+    count = refl;
+    sounds = put-length ((c - 1) * l .count) samples (l .sound) fits;
+    sample = λ t h. put-here ((c - 1) * l .count) samples (l .sound) fits (pos 0) t (omega (arith, many));
+    others = λ d t d1 d8 ne h.
+        by-lt d c
+        (λ lt.
+        let e : d - 1 < c - 1 = omega arith in
+        put-before ((c - 1) * l .count) samples (l .sound) fits (pos 0) ((d - 1) * l .count + t) (omega (arith, end-within (l .count) (d - 1) (c - 1) e)))
+        (λ ge.
+        let e : c - 1 < d - 1 = omega (arith, ne) in
+        put-after ((c - 1) * l .count) samples (l .sound) fits (pos 0) ((d - 1) * l .count + t) (omega (arith, many, end-within (l .count) (c - 1) (d - 1) e)));
+    macroblocks = refl;
+    time = refl;
+    group = refl;
+  }
