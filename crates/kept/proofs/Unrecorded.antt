@@ -21,8 +21,8 @@ use Rattle.promises.specs.Refusals.{Table, _if_, _else_, audioTable, macroblock
 use Rattle.promises.specs.Demand1.{Answers}
 use Rattle.promises.specs.Demand2.{tone}
 use Rattle.promises.specs.Unrecorded.{Marks, every, ComesBackLost, SameButAudio, SameButAaux}
-use Rattle.promises.proofs.Apart.{Gives, SameAs, survey-gives, salvage-gives, check-gives, macroblock-gives, time-gives, audio-gives, sound-gives, count-same, mode-same}
-use Rattle.promises.proofs.Apart.{some-sequence, low-section, low-same, bytes-same, slot-section, word-same, listed-same, salvage-out-same}
+use Rattle.promises.proofs.Apart.{Gives, SameAs, SameWords, survey-gives, salvage-gives, check-gives, macroblock-gives, time-gives, audio-gives, sound-gives, count-same, mode-same}
+use Rattle.promises.proofs.Apart.{some-sequence, low-section, low-same, bytes-same, slot-section, aaux-words, listed-same, salvage-out-same}
 use Rattle.promises.proofs.Unrecorded.{marks-aaux, marks-as, every-leads, some-leads, marked-count, marked-mode}
 use Rattle.promises.proofs.Tables.{row-past}
 use Rattle.promises.proofs.One.{lists-one, listed-one, salvage-out-one}
@@ -112,12 +112,12 @@ pub some-marked : {k : ℕ} {f : List ℕ} {c : ℕ} {which : ℕ → Bool} {g :
 some-marked {k} {f} {c} {which} {g} m i j hi hj wi wj d {samples} {heard} {heard′} {r} {r′} read z read′ =
     sym (reads.audio-answers k g c samples .no-other (r′, heard′) read′ 25 (some-leads m i j hi hj wi wj d .to (given read z)))
 
--- one whose AS packs are the same in both frames
-pub same-audio : {k : ℕ} {f g : List ℕ} {c : ℕ} {samples heard heard′ : List ℤ} {r r′ : AudioAnswer} → SameButAaux k f g → SameAs k f g c → 0 < c → c < 9
+-- one whose AS packs and words are the same in both frames
+pub same-audio : {k : ℕ} {f g : List ℕ} {c : ℕ} {samples heard heard′ : List ℤ} {r r′ : AudioAnswer} → SameButAudio k f g → SameAs k f g c → SameWords k f g c
     → AudioRead k f c samples r heard → AudioRead k g c samples r′ heard′ → (r ≡ r′) × (heard ≡ heard′)
-same-audio {k} {f} {g} {c} {samples} {heard} {heard′} {r} {r′} s a c1 c8 read read′ =
+same-audio {k} {f} {g} {c} {samples} {heard} {heard′} {r} {r′} s a w read read′ =
     let e : _≡_ {A = AudioAnswer × List ℤ} (r, heard) (r′, heard′) =
-    alike (reads.audio-answers k f c samples) (reads.audio-answers k g c samples) (audio-gives (s .blocks) (sound-gives (s .blocks) a)) read read′ (λ z z′.
+    alike (reads.audio-answers k f c samples) (reads.audio-answers k g c samples) (audio-gives s (sound-gives s a)) read read′ (λ z z′.
     let out = audio-out read in
     let out′ = audio-out read′ in
     let below = read-system read z in
@@ -134,7 +134,7 @@ same-audio {k} {f} {g} {c} {samples} {heard} {heard′} {r} {r′} s a c1 c8 rea
     (λ d.
     known-system k below (λ y known.
     out .sample z d t h′
-    ∙ ap sampleBy (sym (word-same s y known c t c1 c8 (omega (arith, h′, count-within read z y known))))
+    ∙ ap sampleBy (sym (w .word t (omega (arith, h′, count-within read z y known))))
     ∙ sym (out′ .sample z′ (λ x. d (sym mode ∙ x)) t h))))
     (rw count at (out .rest z) ∙ sym (out′ .rest z′)) in
     λ i. (record { number = (z ∙ sym z′) i; count = count i }, samples-same i)) in
@@ -142,7 +142,8 @@ same-audio {k} {f} {g} {c} {samples} {heard} {heard′} {r} {r′} s a c1 c8 rea
 
 pub others-same : {k : ℕ} {f : List ℕ} {c : ℕ} {which : ℕ → Bool} {g : List ℕ} → Marks k f c which g → (c′ : ℕ) → 0 < c → 0 < c′ → c′ < 9 → c′ ≢ c
     → {samples heard heard′ : List ℤ} {r r′ : AudioAnswer} → AudioRead k f c′ samples r heard → AudioRead k g c′ samples r′ heard′ → (r ≡ r′) × (heard ≡ heard′)
-others-same m c′ c1 c1′ c8′ d read read′ = same-audio (marks-aaux m) (marks-as m c′ c1 c1′ d) c1′ c8′ read read′
+others-same {k} m c′ c1 c1′ c8′ d read read′ =
+    same-audio (marks-aaux m .blocks) (marks-as m c′ c1 c1′ d) (aaux-words (marks-aaux m) c′ c1′ c8′) read read′
 
 -- ---- the calls that do not look behind the ID of an audio block
 

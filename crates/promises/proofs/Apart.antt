@@ -177,7 +177,7 @@ module _ {k : ℕ} {f g : List ℕ} (s : SameButAaux k f g) (y : System) (known 
   index-below : soundIndex (sequences k) c t < 600 * sequences k
   index-below = let e = columns k y known .sequences-is in rw e (omega (arith, sound-within y f c t c1 c8))
 
-  pub word-same : t < positions k → soundWord (sequences k) g c t ≡ soundWord (sequences k) f c t
+  word-same : t < positions k → soundWord (sequences k) g c t ≡ soundWord (sequences k) f c t
   word-same ht =
       let n = sequences k in
       let col = columns k y known in
@@ -194,13 +194,16 @@ module _ {k : ℕ} {f g : List ℕ} (s : SameButAaux k f g) (y : System) (known 
       let e : faultFor (sequences k) g c t ≡ faultFor (sequences k) f c t = fault-same (s .blocks) (soundIndex (sequences k) c t) (soundIndex (sequences k) c t) index-below in
       record { unnamed = λ d. a .unnamed (λ z. d (e ∙ z)); renamed = λ z. a .renamed (sym e ∙ z) ∙ ap sampleBy (sym (word-same ht)) }
 
+-- a position says a known system
+by-position : {P : Type 0} (k : ℕ) {t : ℕ} → t < positions k → ((y : System) → systemOf k ≡ Known y → P) → P
+by-position k ht found =
+    by-lt k 4 (λ below. known-system k below found)
+    (λ above. let none : positions k ≡ 0 = List·getD-eq-default {A = ℕ} (1620 ∷ 1944 ∷ 1620 ∷ 1944 ∷ []) 0 above in absurd (omega (arith, ht, none)))
+
 pub salvage-out-same : {k : ℕ} {f g : List ℕ} {samples : List ℤ} → SameButAaux k f g → SalvageOut k f samples → SalvageOut k g samples
 salvage-out-same {k} s a = record {
   size = a .size;
-  position = λ c t c1 c8 ht.
-      by-lt k 4
-      (λ below. known-system k below (λ y known. position-same s y known c t c1 c8 (omega (arith, ht)) (a .position c t c1 c8 ht)))
-      (λ above. let none : positions k ≡ 0 = List·getD-eq-default {A = ℕ} (1620 ∷ 1944 ∷ 1620 ∷ 1944 ∷ []) 0 above in absurd (omega (arith, ht, none)));
+  position = λ c t c1 c8 ht. by-position k ht (λ y known. position-same s y known c t c1 c8 (omega (arith, ht)) (a .position c t c1 c8 ht));
 }
 
 -- ---- surveyTable, salvageTable, checkTable: the length of the frame is the same
@@ -361,6 +364,14 @@ module _ {k : ℕ} {f g : List ℕ} {c : ℕ} (s : SameAs k f g c) where
 
   as-differ-to : AsDiffer (sequences k) f c → AsDiffer (sequences k) g c
   as-differ-to = ⊎-elim (λ d. inl (differ-to count-same d)) (λ d. inr (differ-to mode-same d))
+
+-- the words of audio channel c are the same in both
+pub record SameWords (k : ℕ) (f g : List ℕ) (c : ℕ) : Type 0 where
+  pub word : (t : ℕ) → t < positions k → soundWord (sequences k) g c t ≡ soundWord (sequences k) f c t
+
+-- no word stands in AAUX
+pub aaux-words : {k : ℕ} {f g : List ℕ} → SameButAaux k f g → (c : ℕ) → 0 < c → c < 9 → SameWords k f g c
+aaux-words {k} s c c1 c8 = record { word = λ t ht. by-position k ht (λ y known. word-same s y known c t c1 c8 ht) }
 
 -- an audio channel whose AS packs are the same
 pub sound-gives : {k : ℕ} {f g : List ℕ} {c r : ℕ} → SameButAudio k f g → SameAs k f g c → Gives r (sounded k f c none) (sounded k g c none)

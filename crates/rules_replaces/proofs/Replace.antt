@@ -19,6 +19,7 @@ use Rattle.base.proofs.Picks.{pick-true, pick-false, first-zero, first-stops}
 use Rattle.base.proofs.Puts.{put-length, put-before, put-here, put-after, turns-keep, turns-do}
 use Rattle.paper.specs.declared.System.{System}
 use Rattle.paper.specs.declared.SystemNumber.the-variants.{Known, NoSystem}
+use Rattle.paper.specs.Paper.{soundStart}
 use Rattle.rules_format.specs.Systems.{sequencesOf, positionsOf, systemOf}
 use Rattle.rules_format.specs.Samples.{allInRange, wordFor, bytesOf}
 use Rattle.rules_reads.specs.Check.{checkRows}
@@ -28,6 +29,11 @@ use Rattle.rules_format.proofs.Blocks.{holds-within}
 use Rattle.rules_format.proofs.Starts.{start-is, word-holds, start-one}
 use Rattle.rules_reads.proofs.Check.{rows-on}
 use Rattle.rules_reads.proofs.Audio.{audio-on}
+
+-- ---- wordStart: document 01's own formula
+
+pub word-start : (y : System) (c t : ℕ) → wordStart y c t ≡ soundStart (sequencesOf y) c t
+word-start y c t = sym (start-is y c t)
 
 -- ---- putSample, in any order: f is the frame before
 
@@ -46,7 +52,7 @@ module _ (y : System) (c : ℕ) (c1 : 0 < c) (c8 : c < 9) (samples : List ℤ) (
 
   module _ (u : ℕ) (hu : u < length samples) (x : List ℕ) (long : length x ≡ length f) where
     fits : wordStart y c u + 2 ≤ length x
-    fits = omega (arith, whole, long, start-is y c u, holds-within (word-holds y c u 1 c8 (omega (arith, few, hu)) (omega arith)))
+    fits = omega (arith, whole, long, word-start y c u, holds-within (word-holds y c u 1 c8 (omega (arith, few, hu)) (omega arith)))
 
     pub put-long : length (putSample y c samples u x) ≡ length f
     unfolding putSample
@@ -76,7 +82,7 @@ module _ (y : System) (c : ℕ) (c1 : 0 < c) (c8 : c < 9) (samples : List ℤ) (
         (λ e. subst (λ (i : ℕ). Done i (putSample y c samples u x)) (sym e) put-does)
         (λ d.
         let n : wordStart y c t ≢ wordStart y c u = λ e.
-        d (start-one y c c t u c1 c8 c1 c8 (omega (arith, few, ht)) (omega (arith, few, hu)) (start-is y c t ∙ e ∙ sym (start-is y c u)) .1) in
+        d (start-one y c c t u c1 c8 c1 c8 (omega (arith, few, ht)) (omega (arith, few, hu)) (sym (word-start y c t) ∙ e ∙ word-start y c u) .1) in
         (put-stays (wordStart y c t) (n, λ e. omega (arith, e)) ∙ done .0, put-stays (wordStart y c t + 1) ((λ e. omega (arith, e)), λ e. n (omega (arith, e))) ∙ done .1))
 
   -- ---- replaced: sample after sample
