@@ -46,8 +46,8 @@ use Rattle.kept.proofs.WritingBack.{writes-back, strict-decided, frame-
 use Rattle.rules_surveys.proofs.Listing.{same-listed}
 use Rattle.kept.proofs.Salvaging.{salvages, salvage-decided}
 use Rattle.kept.proofs.Worthless.{tone-taken, one-for-two, frame-for-two, all-lost}
-use Rattle.kept.proofs.Unrecorded.{comes-back-lost, others-same, same-salvage, same-check, same-survey, same-macroblock, same-macroblock-at}
-use Rattle.kept.proofs.Unrecorded.{same-time, handed-out, some-marked}
+use Rattle.kept.proofs.Alike.{same-salvage, same-check, same-survey, same-macroblock, same-macroblock-at, same-time}
+use Rattle.kept.proofs.Unrecorded.{comes-back-lost, others-same, handed-out, some-marked}
 use Rattle.rules_format.proofs.Headlines as format
 use Rattle.rules_picture.proofs.Headlines as picture
 use Rattle.rules_packs.proofs.Headlines as packs

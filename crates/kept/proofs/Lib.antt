@@ -5,5 +5,7 @@ pub mod Salvaging
 pub mod Deciding
 pub mod Together
 pub mod Worthless
+pub mod Alike
 pub mod Unrecorded
+pub mod Commentary
 pub mod Demands

@@ -1,20 +1,17 @@
 -- The workshop of "A new commentary channel in a finished frame": what follows from the bytes that are exchanged, by document 01's numbers alone.
 -- Assumes nothing.
-use mathlib.Core.Path.{_≡_, refl, sym, ap, ap₂, _∙_, subst}
-use mathlib.Core.List.{List, []}
-use mathlib.Core.Logic.{_⊎_, inl, inr, ⊎-elim, _≢_}
-use Prim.Native.Nat.{ℕ, _+_, _-_, _*_, _/_, _%_, _≤_, _<_}
+use mathlib.Core.Path.{_≡_, refl, sym, ap₂, _∙_}
+use mathlib.Core.List.{List}
+use mathlib.Core.Logic.{_≢_}
+use Prim.Native.Nat.{ℕ, _+_, _*_, _/_, _%_, _≤_, _<_}
 use native.Mathlib.Omega.{arith}
 use lib.Dec.{eqb}
 use lib.IntN.{ℤ, pos}
-use lib.ListN.{length, getD, take, drop}
+use lib.ListN.{length, getD}
 use lib.Seq.{ext-getD}
 use borrow.Author.Tests.{eqb-true, eqb-false}
-use Rattle.base.specs.Below.{below}
 use Rattle.base.proofs.Below.{below-means, by-below}
-use Rattle.base.proofs.Cases.{by-lt, by-eq}
 use Rattle.base.proofs.Parts.{digit-one}
-use Rattle.base.proofs.Runs.{tab-part, tab-same}
 use Rattle.paper.specs.declared.System.{System}
 use Rattle.paper.specs.declared.SystemNumber.the-variants.{Known}
 use Rattle.paper.specs.declared.AudioAnswer.{AudioAnswer}
@@ -22,8 +19,7 @@ use Rattle.paper.specs.Paper.{sequences, positions, sectionAt, figure3, soundIn
 use Rattle.promises.specs.Refusals.{countStored}
 use Rattle.promises.specs.Unrecorded.{SameButAudio}
 use Rattle.promises.specs.Commentary.{Elsewhere, Exchanged, HeardAgain}
-use Rattle.rules_format.specs.Systems.{sequencesOf, halfOf, positionsOf, systemOf}
-use Rattle.rules_format.specs.Sound.{audioOf}
+use Rattle.rules_format.specs.Systems.{halfOf, systemOf}
 use Rattle.rules_format.proofs.Systems.{half-cases}
 use Rattle.rules_format.proofs.Sound.{audio-below}
 use Rattle.rules_format.proofs.Paper.{columns}

@@ -1,13 +1,12 @@
 -- What a frame in the writer's form holds, and that with one audio channel exchanged the writer takes it. Assumes nothing.
-use mathlib.Core.Path.{_≡_, refl, sym, ap, _∙_, subst}
+use mathlib.Core.Path.{_≡_, refl, sym, ap, _∙_}
 use mathlib.Core.List.{List}
-use mathlib.Core.Logic.{_⊎_, inl, inr, ⊎-elim, _≢_}
+use mathlib.Core.Logic.{inl, inr, ⊎-elim, _≢_}
 use Prim.Native.Nat.{ℕ, _+_, _-_, _*_, _/_, _%_, _≤_, _<_}
 use native.Mathlib.Nat.{div-add-mod', mod-lt, div-lt-iff-lt-mul}
 use native.Mathlib.Omega.{arith}
-use lib.Dec.{leb, eqb}
-use lib.IntN.{ℤ, pos, negsuc}
-use lib.ListN.{length, getD, take, drop}
+use lib.IntN.{ℤ, pos}
+use lib.ListN.{length, getD}
 use borrow.Author.Tests.{le-leb, lt-leb, ne-eqb}
 use Rattle.base.specs.Pick.{pick}
 use Rattle.base.specs.Put.{putAt}
@@ -15,7 +14,7 @@ use Rattle.base.proofs.Cases.{by-lt, by-eq}
 use Rattle.base.proofs.Parts.{length-part}
 use Rattle.base.proofs.Puts.{put-length, put-before, put-here, put-after}
 use Rattle.base.proofs.Runs.{end-within}
-use Rattle.paper.specs.Paper.{sequences, macroblocks, rate, start, byteAt, bytesAt, soundStart, soundWord, sampleBy, wordBy, countSaid}
+use Rattle.paper.specs.Paper.{sequences, macroblocks, rate, start, byteAt, bytesAt, soundStart, soundWord, sampleBy, wordBy}
 use Rattle.paper.specs.Bytes.{OwnCount, WrongClock, WrongTime}
 use Rattle.promises.specs.Contents.{Contents}
 use Rattle.promises.specs.Form.{HasForm}

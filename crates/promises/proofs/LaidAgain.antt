@@ -1,28 +1,26 @@
 -- A frame that is laid out of contents, with one audio channel exchanged, is laid out of the changed contents. Assumes nothing.
-use mathlib.Core.Path.{_≡_, refl, sym, ap, ap₂, _∙_, subst}
-use mathlib.Core.List.{List, _∷_}
-use mathlib.Core.Logic.{⊎-elim}
+use mathlib.Core.Path.{_≡_, refl, sym, ap, ap₂, _∙_}
+use mathlib.Core.List.{List}
 use Prim.Native.Nat.{ℕ, _+_, _*_, _/_, _%_, _≤_, _<_}
 use native.Mathlib.Omega.{arith}
-use lib.Dec.{eqb}
-use lib.IntN.{ℤ, pos}
-use lib.ListN.{length, getD}
+use lib.IntN.{ℤ}
+use lib.ListN.{getD}
 use borrow.Author.Tests.{eq-eqb}
 use Rattle.base.specs.Pick.{pick}
 use Rattle.base.proofs.Cases.{by-eq}
 use Rattle.base.proofs.Picks.{pick-either}
 use Rattle.paper.specs.declared.System.{System}
 use Rattle.paper.specs.declared.SystemNumber.the-variants.{Known}
-use Rattle.paper.specs.Paper.{sequences, positions, byteAt, bytesAt, soundChannel, soundFirst, soundStart, wordBy, countBy, countSaid, asPack, asPlace, slotPlace}
+use Rattle.paper.specs.Paper.{sequences, positions, byteAt, soundChannel, soundFirst, wordBy, countBy, countSaid, asPack, asPlace, slotPlace}
 use Rattle.paper.specs.Bytes.{ssybForm, aauxForm}
 use Rattle.promises.specs.Contents.{Contents}
 use Rattle.promises.specs.Form.{cut, timeBytes, groupBytes, sizeByte, HasForm}
-use Rattle.promises.specs.Demand2.{given, LaidOut}
+use Rattle.promises.specs.Demand2.{LaidOut}
 use Rattle.promises.specs.Refusals.{countStored}
 use Rattle.promises.specs.Commentary.{Exchanged, Changed}
 use Rattle.rules_format.specs.Systems.{systemOf}
 use Rattle.rules_format.proofs.Paper.{known-below}
-use Rattle.promises.proofs.Apart.{bytes-alike, bytes-same, byte-same, low-section, slot-section, sequences-two, some-sequence}
+use Rattle.promises.proofs.Apart.{bytes-alike, bytes-same, byte-same, low-section, slot-section, some-sequence}
 use Rattle.promises.proofs.LaidOut.{cut-byte}
 use Rattle.promises.proofs.Commentary.{head-same, exchanged-apart, high-else, low-else, word-else}
 

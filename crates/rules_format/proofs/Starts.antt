@@ -1,13 +1,13 @@
 -- Where the words of a frame start: each position of each audio channel has two bytes of its own, in an audio block behind its ID and its pack. Assumes nothing.
 use mathlib.Core.Path.{_≡_, refl, sym, ap, ap₂, _∙_, subst}
-use mathlib.Core.List.{List, []}
-use Prim.Native.Nat.{ℕ, _+_, _*_, _/_, _%_, _≤_, _<_}
+use mathlib.Core.List.{[]}
+use Prim.Native.Nat.{ℕ, _+_, _<_}
 use native.Mathlib.Omega.{arith}
 use Rattle.paper.specs.declared.System.{System}
 use Rattle.paper.specs.declared.Section.the-variants.{Audio}
 use Rattle.rules_format.specs.Systems.{sequencesOf, halfOf, positionsOf}
 use Rattle.rules_format.specs.Blocks.{startOf, Holds}
-use Rattle.rules_format.specs.Sound.{difOf, halfAt, rankOf, audioOf, wordNumber, byteOf, sequenceOf, soundPlace, audioAt, rankAt, sampleAt}
+use Rattle.rules_format.specs.Sound.{difOf, rankOf, audioOf, wordNumber, byteOf, sequenceOf, soundPlace, audioAt, rankAt, sampleAt}
 use Rattle.paper.specs.Paper.{soundStart}
 use Rattle.rules_format.proofs.Systems.{half-cases, positions-half}
 use Rattle.rules_format.proofs.Places.{place-in-below}

@@ -1,5 +1,5 @@
 -- The workshop of the first demand, of this call: one outcome, the number that its table gives, and a refusal that writes nothing. Assumes nothing.
-use mathlib.Core.Path.{_≡_, sym, _∙_}
+use mathlib.Core.Path.{sym, _∙_}
 use Rattle.promises.specs.Demand1.{ReplaceAnswers}
 use Rattle.promises.proofs.Answering.{answers}
 use Rattle.rules_replaces.specs.Replace.{Replaced}

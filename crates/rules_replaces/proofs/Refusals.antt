@@ -1,12 +1,12 @@
 -- The refusal table of the call, in document 01's numbers and bytes, gives exactly the number that its contract has. Assumes nothing.
 use mathlib.Core.Path.{_≡_, sym, _∙_}
 use mathlib.Core.List.{List, [], _∷_, _++_}
-use mathlib.Core.Bool.{true, false, not}
+use mathlib.Core.Bool.{not}
 use Prim.Native.Nat.{ℕ}
 use lib.Dec.{eqb}
 use lib.IntN.{ℤ}
 use lib.ListN.{length}
-use borrow.Author.Tests.{eq-eqb, eqb-true, eqb-false}
+use borrow.Author.Tests.{eq-eqb, eqb-true}
 use Rattle.base.specs.Calls.{firstOf, _when_}
 use Rattle.base.proofs.Cases.{clash}
 use Rattle.paper.specs.declared.System.{System}

@@ -12,7 +12,7 @@ use lib.Seq.{ext-getD}
 use borrow.Author.Tests.{eq-eqb, ne-eqb, eqb-true, eqb-false, not-false}
 use Rattle.base.specs.Calls.{firstOf, ExactlyOne}
 use Rattle.base.specs.Pick.{pick}
-use Rattle.base.specs.Put.{putAt, turns}
+use Rattle.base.specs.Put.{putAt}
 use Rattle.base.proofs.Below.{by-below}
 use Rattle.base.proofs.Cases.{by-bool, by-eq, by-lt}
 use Rattle.base.proofs.Picks.{pick-true, pick-false, first-zero, first-stops}

@@ -1,9 +1,7 @@
 -- The workshop of "A new commentary channel in a finished frame", of this call: the bytes that it exchanges. Assumes nothing.
 use mathlib.Core.Path.{_≡_, sym, ap, _∙_, subst}
-use mathlib.Core.Bool.{true}
 use mathlib.Core.List.{List}
-use mathlib.Core.Logic.{_≢_}
-use Prim.Native.Nat.{ℕ, _+_, _*_, _/_, _%_, _≤_, _<_}
+use Prim.Native.Nat.{ℕ, _+_, _/_, _%_, _≤_, _<_}
 use native.Mathlib.Omega.{arith}
 use lib.Dec.{ltb}
 use lib.IntN.{ℤ, pos}
@@ -12,7 +10,7 @@ use borrow.Author.Tests.{ltb-true}
 use Rattle.base.proofs.Picks.{both-held}
 use Rattle.paper.specs.declared.System.{System}
 use Rattle.paper.specs.declared.SystemNumber.the-variants.{Known}
-use Rattle.paper.specs.Paper.{sequences, positions, soundStart, wordBy}
+use Rattle.paper.specs.Paper.{sequences, soundStart, wordBy}
 use Rattle.promises.specs.Refusals.{countStored}
 use Rattle.promises.specs.Commentary.{Exchanged}
 use Rattle.rules_format.specs.Systems.{positionsOf, systemOf}

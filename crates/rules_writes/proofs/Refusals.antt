@@ -1,30 +1,27 @@
 -- The writer's refusal table, in document 01's numbers and bytes, gives exactly the number that its contract has. Assumes nothing.
-use mathlib.Core.Path.{_≡_, refl, sym, ap, _∙_}
+use mathlib.Core.Path.{_≡_, sym, ap, _∙_}
 use mathlib.Core.Bool.{true, false, not}
 use mathlib.Core.List.{List, [], _∷_}
-use mathlib.Core.Logic.{_⊎_, inl, inr, ⊎-elim}
-use Prim.Native.Nat.{ℕ, _*_, suc}
-use native.Mathlib.Omega.{arith}
-use lib.Dec.{eqb, leb}
-use lib.ListN.{length, getD}
-use borrow.Author.Tests.{eqb-true, eq-eqb, leb-true, leb-false, not-true, not-false}
+use mathlib.Core.Logic.{inl, inr, ⊎-elim}
+use Prim.Native.Nat.{ℕ, _*_}
+use lib.Dec.{eqb}
+use lib.ListN.{length}
+use borrow.Author.Tests.{eqb-true, eq-eqb, not-true, not-false}
 use Rattle.base.specs.Calls.{Refusal, firstOf, _when_}
-use Rattle.base.proofs.Cases.{by-bool, by-eq, clash}
+use Rattle.base.proofs.Cases.{by-eq, clash}
 use Rattle.base.proofs.Picks.{both-held, both-hold}
 use Rattle.paper.specs.declared.System.{System}
 use Rattle.paper.specs.declared.SystemNumber.the-variants.{Known}
 use Rattle.rules_format.specs.Systems.{macroblocksOf, isCount, systemOf, passes, frameBytes}
-use Rattle.rules_format.specs.Samples.{allInRange, inRange}
+use Rattle.rules_format.specs.Samples.{allInRange}
 use Rattle.promises.specs.Contents.{Contents}
 use Rattle.rules_writes.specs.Write.{lengthsOk, countOk, clockTaken, writeNumber}
-use Rattle.promises.specs.Refusals.{Table, _if_, _else_, none, WrongLengths, writeTable, Outside, SomeOutside}
+use Rattle.promises.specs.Refusals.{Table, _if_, _else_, none, WrongLengths, writeTable}
 use Rattle.paper.specs.Bytes.{WrongTime}
 use Rattle.rules_format.proofs.Paper.{columns}
 use Rattle.promises.proofs.Tables.{Exactly, exactly-none, row-exactly, row-system, row-length, row-outside}
 use Rattle.rules_packs.proofs.Judged.{own-means, own-when, taken-wrong, taken-right}
 use Rattle.rules_packs.specs.TimeCode.{timeTaken, timePack}
-use lib.IntN.{ℤ, pos, negsuc}
-use Rattle.rules_format.proofs.Samples.{all-in}
 
 -- ---- 32
 
