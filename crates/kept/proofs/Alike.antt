@@ -1,7 +1,7 @@
 -- What the calls answer of two frames that differ in audio blocks alone, by what the promises say of each. Assumes nothing.
 use mathlib.Core.Path.{_≡_, sym, ap, _∙_, subst}
 use mathlib.Core.List.{List}
-use mathlib.Core.Logic.{_≢_}
+use mathlib.Core.Logic.{inl, inr, _≢_}
 use Prim.Native.Nat.{ℕ, _+_, _*_, _≤_, _<_}
 use native.Mathlib.Omega.{arith}
 use lib.IntN.{ℤ}
@@ -70,6 +70,13 @@ module _ {k : ℕ} {f : List ℕ} {c : ℕ} {samples heard : List ℤ} {r : Audi
   pub read-system : k < 4
   read-system = first-rows given .0
 
+  -- the channel is one
+  read-channel : (0 < c) × (c < 9)
+  read-channel =
+      let two = row-past (λ e. omega (arith, e)) (row-past (λ e. omega (arith, e)) given .1) in
+      let three = row-past (λ e. omega (arith, e)) (two .1) in
+      (by-lt 0 c (λ l. l) (λ zero. absurd (three .0 (inl (omega arith)))), by-lt c 9 (λ l. l) (λ above. absurd (three .0 (inr above))))
+
   -- its samples are among the positions
   pub count-within : (y : System) → systemOf k ≡ Known y → r .count < positions k
   count-within y known =
@@ -83,7 +90,7 @@ module _ {k : ℕ} {f : List ℕ} {c : ℕ} {samples heard : List ℤ} {r : Audi
       )
 
 -- one whose AS packs and words are the same in both frames
-pub same-audio : {k : ℕ} {f g : List ℕ} {c : ℕ} {samples heard heard′ : List ℤ} {r r′ : AudioAnswer} → SameButAudio k f g → SameAs k f g c → SameWords k f g c
+pub same-audio : {k : ℕ} {f g : List ℕ} {c : ℕ} {samples heard heard′ : List ℤ} {r r′ : AudioAnswer} → SameButAudio k f g → SameAs k f g c → (0 < c → c < 9 → SameWords k f g c)
     → AudioRead k f c samples r heard → AudioRead k g c samples r′ heard′ → (r ≡ r′) × (heard ≡ heard′)
 same-audio {k} {f} {g} {c} {samples} {heard} {heard′} {r} {r′} s a w read read′ =
     let e : _≡_ {A = AudioAnswer × List ℤ} (r, heard) (r′, heard′) =
@@ -104,7 +111,7 @@ same-audio {k} {f} {g} {c} {samples} {heard} {heard′} {r} {r′} s a w read re
     (λ d.
     known-system k below (λ y known.
     out .sample z d t h′
-    ∙ ap sampleBy (sym (w .word t (omega (arith, h′, count-within read z y known))))
+    ∙ ap sampleBy (sym (w (read-channel read z .0) (read-channel read z .1) .word t (omega (arith, h′, count-within read z y known))))
     ∙ sym (out′ .sample z′ (λ x. d (sym mode ∙ x)) t h))))
     (rw count at (out .rest z) ∙ sym (out′ .rest z′)) in
     λ i. (record { number = (z ∙ sym z′) i; count = count i }, samples-same i)) in

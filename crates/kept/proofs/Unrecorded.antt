@@ -50,8 +50,8 @@ some-marked {k} {f} {c} {which} {g} m i j hi hj wi wj d {samples} {heard} {heard
 
 pub others-same : {k : ℕ} {f : List ℕ} {c : ℕ} {which : ℕ → Bool} {g : List ℕ} → Marks k f c which g → (c′ : ℕ) → 0 < c → 0 < c′ → c′ < 9 → c′ ≢ c
     → {samples heard heard′ : List ℤ} {r r′ : AudioAnswer} → AudioRead k f c′ samples r heard → AudioRead k g c′ samples r′ heard′ → (r ≡ r′) × (heard ≡ heard′)
-others-same {k} m c′ c1 c1′ c8′ d read read′ =
-    same-audio (marks-aaux m .blocks) (marks-as m c′ c1 c1′ d) (aaux-words (marks-aaux m) c′ c1′ c8′) read read′
+others-same m c′ c1 c1′ c8′ d read read′ =
+    same-audio (marks-aaux m .blocks) (marks-as m c′ c1 c1′ d) (aaux-words (marks-aaux m) c′) read read′
 
 -- ---- the words of a marked channel are not handed out
 

@@ -3,7 +3,8 @@ use mathlib.Core.Path.{_≡_, refl, sym, ap, _∙_}
 use mathlib.Core.Bool.{not}
 use mathlib.Core.List.{List, [], _∷_}
 use mathlib.Core.Logic.{_⊎_, inl, inr, ⊎-elim, _≢_}
-use Prim.Native.Nat.{ℕ, _+_, _*_, _/_, _%_, _≤_, _<_}
+use Prim.Native.Nat.{ℕ, zero, suc, _+_, _*_, _/_, _%_, _≤_, _<_}
+use native.Mathlib.Nat.{not-suc-le-zero}
 use native.Mathlib.Omega.{arith}
 use lib.Dec.{eqb}
 use lib.IntN.{ℤ}
@@ -12,7 +13,7 @@ use lib.Seq.{getD-set-other}
 use borrow.Author.Tests.{eqb-false, not-true}
 use Rattle.base.specs.Below.{below}
 use Rattle.base.proofs.Below.{below-means}
-use Rattle.base.proofs.Cases.{by-lt}
+use Rattle.base.proofs.Cases.{by-lt, by-eq}
 use Rattle.base.proofs.Picks.{pick-either}
 use Rattle.base.proofs.Runs.{run-same, tab-part, tab-same}
 use Rattle.paper.specs.declared.System.{System}
@@ -117,6 +118,16 @@ module _ {k : ℕ} {f g : List ℕ} (s : SameButAudio k f g) where
       let zero : j * 80 + 0 ≡ j * 80 = omega arith in
       let b0 : getD g (j * 80) 0 ≡ getD f (j * 80) 0 = rw zero at (s .ids j 0 hj (omega arith)) in
       rw (b0, s .ids j 1 hj (omega arith), s .ids j 2 hj (omega arith)) refl
+
+-- ---- FirstFault: where none is given, every block names its place
+
+pub all-named : (n : ℕ) (f : List ℕ) → ((r : ℕ) → FirstFault n f r → ⊥) → (m : ℕ) → m ≤ 600 * n → (j : ℕ) → j < m → streamFault n f j j ≡ 0
+all-named n f none zero h j l = absurd (not-suc-le-zero l)
+all-named n f none (suc m) h j l =
+    let before = all-named n f none m (omega arith) in
+    by-eq j m
+    (λ last. rw last (by-eq (streamFault n f m m) 0 (λ z. z) (λ d. absurd (none (streamFault n f m m) (record { j = m; within = h; before = before; is = refl; some = d })))))
+    (λ d. before j (omega (arith, d)))
 
 -- ---- checked: the rows of the frame check
 

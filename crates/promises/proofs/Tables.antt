@@ -122,7 +122,7 @@ unfolding inRange
 range-clash (pos v) e o = omega (arith, o, leb-true v 32768 e)
 range-clash (negsuc v) e o = omega (arith, o, leb-true v 32767 (both-held (leb v 32767) true e .0))
 
-some-outside : (sound : List ℤ) → allInRange sound ≡ false → SomeOutside sound
+pub some-outside : (sound : List ℤ) → allInRange sound ≡ false → SomeOutside sound
 unfolding allInRange
 some-outside [] e = let z : _≡_ {A = ℕ} 0 1 = cc in absurd (omega arith)
 some-outside (x ∷ xs) e =
@@ -130,10 +130,13 @@ some-outside (x ∷ xs) e =
     (λ t. let o = some-outside xs (rw t at e) in record { i = suc (o .i); within = omega (arith, o .within); outside = o .outside })
     (λ d. record { i = 0; within = omega arith; outside = range-or x d })
 
+pub none-outside : (sound : List ℤ) → allInRange sound ≡ true → SomeOutside sound → ⊥
+none-outside sound e o = range-clash (getD sound (o .i) (pos 0)) (all-in sound (o .i) e (o .within)) (o .outside)
+
 pub row-outside : (sound : List ℤ) (table : Table) (rows : List Refusal) → (allInRange sound ≡ true → Exactly table (firstOf rows))
     → Exactly (31 if SomeOutside sound else table) (firstOf (31 when not (allInRange sound) ∷ rows))
 row-outside sound table rows rest =
     row-exactly 31 (not (allInRange sound)) table rows
     (λ e. some-outside sound (not-true _ e))
-    (λ e o. range-clash (getD sound (o .i) (pos 0)) (all-in sound (o .i) (not-false _ e) (o .within)) (o .outside))
+    (λ e. none-outside sound (not-false _ e))
     (λ e. rest (not-false _ e))

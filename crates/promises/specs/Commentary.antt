@@ -3,12 +3,12 @@
 use mathlib.Core.Path.{_≡_}
 use mathlib.Core.List.{List}
 use mathlib.Core.Logic.{_≢_}
-use Prim.Native.Nat.{ℕ, _+_, _*_, _/_, _%_, _<_}
+use Prim.Native.Nat.{ℕ, _+_, _-_, _*_, _/_, _%_, _≤_, _<_}
 use lib.IntN.{ℤ, pos}
 use lib.ListN.{length, getD, take, drop}
 use Rattle.paper.specs.declared.AudioAnswer.{AudioAnswer}
 use Rattle.paper.specs.declared.Carried.the-variants.{Macroblock}
-use Rattle.paper.specs.Paper.{sequences, macroblocks, bytesAt, soundStart, soundWord, sampleBy, wordBy, back, countSaid, slotPlace, carried}
+use Rattle.paper.specs.Paper.{sequences, positions, macroblocks, bytesAt, soundStart, soundWord, sampleBy, wordBy, back, countSaid, slotPlace, carried}
 use Rattle.promises.specs.Contents.{Contents}
 use Rattle.promises.specs.Demand2.{given}
 use Rattle.promises.specs.Refusals.{countStored}
@@ -37,6 +37,14 @@ pub record HeardAgain (samples before : List ℤ) (o : AudioAnswer) (after : Lis
   pub sample : (t : ℕ) → t < length samples → getD after t (pos 0) ≡ back (getD samples t (pos 0))
   pub rest : drop (length samples) after ≡ drop (length samples) before
   pub size : length after ≡ length before
+
+-- ---- salvage of f leaves `before`, of g `after`: the new samples, and every other position as it was
+
+pub record SalvagedAgain (k c : ℕ) (samples before after : List ℤ) : Type 0 where
+  pub sample : (t : ℕ) → t < length samples → getD after ((c - 1) * positions k + t) (pos 0) ≡ back (getD samples t (pos 0))
+  pub others : (d t : ℕ) → 0 < d → d < 9 → t < positions k → (d ≡ c → length samples ≤ t)
+      → getD after ((d - 1) * positions k + t) (pos 0) ≡ getD before ((d - 1) * positions k + t) (pos 0)
+  pub size : length after ≡ 8 * positions k
 
 -- ---- "For a frame in our writer's form the result is what the writer would have made from the changed contents."
 
