@@ -121,3 +121,66 @@ module _ {k : ℕ} {f : List ℕ} {c : ℕ} {samples : List ℤ} {g : List ℕ} 
     time = same-time apart;
     survey = same-survey apart;
   }
+
+  -- ---- salvage
+
+  -- every block of a frame that is taken names its place
+  fault-none : (d u : ℕ) → 0 < d → d < 9 → faultFor (sequences k) g d u ≡ 0
+  fault-none d u d1 d8 =
+      let n : ℕ = sequences k in
+      let j : ℕ = soundIndex n d u in
+      let within : j < 600 * n = let e = columns k y known .sequences-is in rw e (omega (arith, sound-within y f d u d1 d8)) in
+      let rows : replaceTable k f c samples 0 = replacing.replace-answers k f c samples .numbered (0, g) call in
+      let three = row-past (λ e. omega (arith, e)) (row-past (λ e. omega (arith, e)) (row-past (λ e. omega (arith, e)) rows .1) .1) in
+      let clean : (r : ℕ) → FirstFault (sequences k) f r → ⊥ = ⊎-elim (λ a. absurd (a .some refl)) (λ p. p .0) (three .1) in
+      fault-same apart j j within ∙ all-named (sequences k) f clean (600 * sequences k) (omega arith) j within
+
+  salvaged-new : {buffer before after : List ℤ} {list list₁ list₂ : List ℕ} {r r′ : Survey} → length buffer ≡ 8 * positions k
+      → Salvaged k f buffer list r before list₁ → Salvaged k g buffer list r′ after list₂ → (r ≡ r′) × (list₁ ≡ list₂) × SalvagedAgain k c samples before after
+  salvaged-new {buffer} {before} {after} {list} {list₁} {list₂} {r} {r′} room a a′ =
+      let x = replaces call in
+      let c1 = takes-above t in
+      let c8 = takes-below t in
+      let many = stored-count k y known f c samples t in
+      let whole : length f ≡ 48000 * sequences k = t .whole ∙ ap (λ (n : ℕ). 48000 * n) (sym (columns k y known .sequences-is)) in
+      let zero : (size : ℕ) → size ≡ 48000 * sequences k → salvageTable k size (length buffer) 0 =
+      λ size e. row-on (λ above. omega (arith, above, known-below k y known)) (row-on (λ d. d e) (row-on (λ d. d room) refl)) in
+      let z : r .number ≡ 0 = sym (surveys.salvage-answers k f buffer list .no-other (r, before, list₁) a 0 (zero (length f) whole)) in
+      let z′ : r′ .number ≡ 0 = sym (surveys.salvage-answers k g buffer list .no-other (r′, after, list₂) a′ 0 (zero (length g) (x .size ∙ whole))) in
+      let one = listed-one (listed-same apart (surveys.salvages-listed k a z)) (surveys.salvages-listed k a′ z′) (z ∙ sym z′) in
+      let out = surveys.salvages-out k a z in
+      let out′ = surveys.salvages-out k a′ z′ in
+      let stored : (d u : ℕ) → 0 < d → d < 9 → faultFor (sequences k) f d u ≡ 0 = λ d u d1 d8. sym (same-fault d u d1 d8) ∙ fault-none d u d1 d8 in
+      (one .0, one .1, record {
+        sample = λ u h.
+            out′ .position c u c1 c8 (omega (arith, h, many, few)) .renamed (fault-none c u c1 c8)
+            ∙ ap sampleBy (word-new x y known c1 c8 few u (omega (arith, h, many))) ∙ new-sample u h;
+        others = λ d u d1 d8 hu other.
+            out′ .position d u d1 d8 hu .renamed (fault-none d u d1 d8)
+            ∙ ap sampleBy (word-else x y known c1 c8 few d u d1 d8 hu (λ e. omega (arith, other e, many)))
+            ∙ sym (out .position d u d1 d8 hu .renamed (stored d u d1 d8));
+        size = out′ .size;
+      })
+    where
+      same-fault : (d u : ℕ) → 0 < d → d < 9 → faultFor (sequences k) g d u ≡ faultFor (sequences k) f d u
+      same-fault d u d1 d8 =
+          let e = columns k y known .sequences-is in
+          fault-same apart (soundIndex (sequences k) d u) (soundIndex (sequences k) d u) (rw e (omega (arith, sound-within y f d u d1 d8)))
+
+  -- ---- the writer
+
+  -- whatever contents f is laid out of, g is laid out of the changed ones
+  laid-new : {l l′ : Contents} → LaidOut k l f → Changed l c samples l′ → LaidOut k l′ g
+  laid-new = laid-again (replaces call) y known (takes-above t) (takes-below t) few
+
+  many-held : {l : Contents} → LaidOut k l f → length samples ≡ l .count
+  many-held laid = stored-count k y known f c samples t ∙ form-count (laid .form) (known-below k y known) c (takes-below t) ∙ laid .count
+
+  -- and where the writer takes those, it makes g of these
+  made-new : {l l′ : Contents} → LaidOut k l f → length (l .sound) ≡ 8 * l .count → Changed l c samples l′ → {frame w : List ℕ} {r : ℕ} → writeTable k l (length frame) 0
+      → Wrote k l′ frame r w → (r ≡ 0) × (w ≡ g)
+  made-new {l} {l′} laid sounds changed {frame} {w} {r} taken wrote =
+      let table = changed-taken l c samples (takes-above t) (takes-below t) (many-held laid) sounds k l′ (length frame) changed (none-outside samples (t .levels)) taken in
+      let z : r ≡ 0 = sym (writes.write-answers k l′ frame .no-other (r, w) wrote 0 table) in
+      let wrote₀ : Wrote k l′ frame 0 w = subst (λ (m : ℕ). Wrote k l′ frame m w) z wrote in
+      (z, sym (frame-decided wrote₀ (laid-new laid changed)))

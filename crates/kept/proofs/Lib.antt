@@ -7,5 +7,6 @@ pub mod Together
 pub mod Worthless
 pub mod Alike
 pub mod Unrecorded
+pub mod Held
 pub mod Commentary
 pub mod Demands

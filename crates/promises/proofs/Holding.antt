@@ -25,6 +25,7 @@ use Rattle.promises.specs.Commentary.{FrameHolds, Changed}
 use Rattle.promises.proofs.Tables.{row-past, row-on}
 use Rattle.promises.proofs.Apart.{some-sequence}
 use Rattle.promises.proofs.LaidOut.{cut-byte}
+use Rattle.promises.proofs.One.{by-position, channels-one}
 
 -- ---- sampleBy: a word is told from its sample
 
@@ -69,13 +70,7 @@ module _ {k : ℕ} {f : List ℕ} {l : Contents} (form : HasForm k f) (bytes : (
 -- a number of a lent slice is that of a position of an audio channel
 inside-all : (l : Contents) → length (l .sound) ≡ 8 * l .count → ((c t : ℕ) → 0 < c → c < 9 → t < l .count → Outside (given l c t) → ⊥) → SomeOutside (l .sound) → ⊥
 inside-all l sounds inside o =
-    let n : ℕ = l .count in
-    let i : ℕ = o .i in
-    let below : i < 8 * n = omega (arith, o .within, sounds) in
-    let some : 0 < n = omega (arith, below) in
-    let c : i / n < 8 = div-lt-iff-lt-mul some .1 below in
-    let at : (i / n + 1 - 1) * n + i % n ≡ i = ap (λ (x : ℕ). x * n + i % n) (omega arith) ∙ div-add-mod' i n in
-    inside (i / n + 1) (i % n) (omega arith) (omega (arith, c)) (mod-lt i some) (rw at (o .outside))
+    by-position (λ (i : ℕ). Outside (getD (l .sound) i (pos 0)) → ⊥) (l .count) inside (o .i) (omega (arith, o .within, sounds)) (o .outside)
 
 write-zero : (k : ℕ) (l : Contents) (size : ℕ) → k < 4 → size ≡ 48000 * sequences k → OwnCount k (l .count) → length (l .sound) ≡ 8 * l .count
     → length (l .macroblocks) ≡ 77 * macroblocks k → length (l .timeCode) ≡ 4 → length (l .binaryGroup) ≡ 4
@@ -171,3 +166,22 @@ module _ (l : Contents) (c : ℕ) (samples : List ℤ) (c1 : 0 < c) (c8 : c < 9)
     time = refl;
     group = refl;
   }
+
+  -- and no others
+  pub changed-one : {l₁ l₂ : Contents} → Changed l c samples l₁ → Changed l c samples l₂ → l₁ ≡ l₂
+  changed-one {l₁} {l₂} a b =
+      let count : l₁ .count ≡ l₂ .count = a .count ∙ sym (b .count) in
+      let sound : l₁ .sound ≡ l₂ .sound =
+      channels-one (l .count) (a .sounds ∙ sounds) (b .sounds ∙ sounds) (λ d t d1 d8 h.
+      let one : (l₃ : Contents) → Changed l c samples l₃ → getD (l₃ .sound) ((d - 1) * l .count + t) (pos 0) ≡ given l₃ d t =
+      λ l₃ m. ap (λ (n : ℕ). getD (l₃ .sound) ((d - 1) * n + t) (pos 0)) (sym (m .count)) in
+      one l₁ a
+      ∙ by-eq d c (λ own. rw own (a .sample t h ∙ sym (b .sample t h))) (λ ne. a .others d t d1 d8 ne h ∙ sym (b .others d t d1 d8 ne h))
+      ∙ sym (one l₂ b)) in
+      λ i. record {
+        count = count i;
+        sound = sound i;
+        macroblocks = (a .macroblocks ∙ sym (b .macroblocks)) i;
+        timeCode = (a .time ∙ sym (b .time)) i;
+        binaryGroup = (a .group ∙ sym (b .group)) i;
+      }

@@ -145,6 +145,21 @@ pub coasting : {n first m : ℕ} {bytes list list′ : List ℕ} {r : Survey} �
     → (j : ℕ) → j < m → streamFault n bytes j (first + j) ≡ 0
 coasting {n} {first} {m} {bytes} s z j h = records-none n bytes first m j (omega (arith, z, s .total)) h
 
+-- ---- eight audio channels of w numbers each, one after the other
+
+-- each number of them is that of a position
+pub by-position : (P : ℕ → Type 0) (w : ℕ) → ((c t : ℕ) → 0 < c → c < 9 → t < w → P ((c - 1) * w + t)) → (i : ℕ) → i < 8 * w → P i
+by-position P w each i below =
+    let some : 0 < w = omega (arith, below) in
+    let c : i / w < 8 = div-lt-iff-lt-mul some .1 below in
+    let e : i / w + 1 - 1 ≡ i / w = omega arith in
+    subst P (ap (λ (x : ℕ). x * w + i % w) e ∙ div-add-mod' i w) (each (i / w + 1) (i % w) (omega arith) (omega (arith, c)) (mod-lt i some))
+
+pub channels-one : (w : ℕ) {xs ys : List ℤ} → length xs ≡ 8 * w → length ys ≡ 8 * w
+    → ((c t : ℕ) → 0 < c → c < 9 → t < w → getD xs ((c - 1) * w + t) (pos 0) ≡ getD ys ((c - 1) * w + t) (pos 0)) → xs ≡ ys
+channels-one w {xs} {ys} a b each =
+    ext-getD (pos 0) xs ys (a ∙ sym b) (λ i h. by-position (λ (j : ℕ). getD xs j (pos 0) ≡ getD ys j (pos 0)) w each i (omega (arith, h, a)))
+
 -- ---- SalvageOut, Salvages
 
 module _ {k : ℕ} {g : List ℕ} {samples samples′ : List ℤ} (a : SalvageOut k g samples) (b : SalvageOut k g samples′) where
@@ -157,16 +172,7 @@ module _ {k : ℕ} {g : List ℕ} {samples samples′ : List ℤ} (a : SalvageOu
       (λ d. a .position c t c1 c8 ht .unnamed d ∙ sym (b .position c t c1 c8 ht .unnamed d))
 
   pub salvage-out-one : samples ≡ samples′
-  salvage-out-one =
-      ext-getD (pos 0) samples samples′ (a .size ∙ sym (b .size)) (λ i h.
-      let w : ℕ = positions k in
-      let below : i < 8 * w = subst (λ (n : ℕ). i < n) (a .size) h in
-      let some : 0 < w = omega (arith, below) in
-      let c : i / w < 8 = div-lt-iff-lt-mul some .1 below in
-      let e : i / w + 1 - 1 ≡ i / w = omega arith in
-      let here = position-one (i / w + 1) (i % w) (omega arith) (omega (arith, c)) (mod-lt i some) in
-      subst (λ (j : ℕ). getD samples j (pos 0) ≡ getD samples′ j (pos 0)) (div-add-mod' i w)
-      (subst (λ (x : ℕ). getD samples (x * w + i % w) (pos 0) ≡ getD samples′ (x * w + i % w) (pos 0)) e here))
+  salvage-out-one = channels-one (positions k) (a .size) (b .size) position-one
 
 module _ {k : ℕ} {l : Contents} {f g list list₁ list₂ : List ℕ} {r r′ : Survey} {samples samples′ : List ℤ} (a : Salvages k l f g list r samples list₁)
     (b : Salvages k l f g list r′ samples′ list₂) where
