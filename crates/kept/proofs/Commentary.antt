@@ -2,13 +2,13 @@
 use mathlib.Core.Path.{_≡_, refl, sym, ap, _∙_, subst}
 use mathlib.Core.List.{List}
 use mathlib.Core.Bool.{true}
-use mathlib.Core.Logic.{⊎-elim, _≢_}
+use mathlib.Core.Logic.{inl, ⊎-elim, _≢_}
 use Prim.Native.Nat.{ℕ, _+_, _-_, _*_, _≤_, _<_}
 use native.Mathlib.Omega.{arith}
 use lib.IntN.{ℤ, pos}
 use lib.ListN.{length, getD}
-use borrow.Author.Tests.{eq-eqb, eqb-false}
-use Rattle.base.proofs.Cases.{by-eq}
+use borrow.Author.Tests.{eq-eqb, ne-eqb, eqb-false}
+use Rattle.base.proofs.Cases.{by-bool, by-eq}
 use Rattle.paper.specs.declared.System.{System}
 use Rattle.paper.specs.declared.SystemNumber.the-variants.{Known}
 use Rattle.paper.specs.declared.AudioAnswer.{AudioAnswer}
@@ -22,15 +22,15 @@ use Rattle.promises.specs.Demand3.{faultFor, SalvageOut}
 use Rattle.promises.specs.Refusals.{FirstFault, SomeOutside, countStored, modeStored, salvageTable, timeTable, writeTable, replaceTable}
 use Rattle.promises.specs.Unrecorded.{SameButAudio}
 use Rattle.promises.specs.Commentary.{Exchanged, HeardAgain, SalvagedAgain, FrameHolds, Changed}
-use Rattle.promises.proofs.Tables.{row-past, row-on, none-outside}
+use Rattle.promises.proofs.Tables.{row-past, row-on, none-outside, some-outside}
 use Rattle.promises.proofs.Apart.{SameAs, SameWords, audio-gives, sound-gives, count-same, mode-same, some-sequence, fault-same, listed-same, all-named}
 use Rattle.promises.proofs.One.{listed-one}
 use Rattle.promises.proofs.Commentary.{exchanged-apart, exchanged-as, word-new, word-else}
 use Rattle.promises.proofs.LaidAgain.{form-count, laid-again}
 use Rattle.promises.proofs.Holding.{held-laid, held-taken, changed-taken}
 use Rattle.rules_format.specs.Systems.{systemOf}
-use Rattle.rules_format.specs.Samples.{inRange}
-use Rattle.rules_format.proofs.Paper.{columns, known-below}
+use Rattle.rules_format.specs.Samples.{inRange, allInRange}
+use Rattle.rules_format.proofs.Paper.{columns, known-below, by-system}
 use Rattle.rules_format.proofs.Samples.{word-is, heard-is, back-is, number-again, all-in}
 use Rattle.rules_format.proofs.Numbers.{sound-within}
 use Rattle.rules_surveys.specs.Salvage.{Salvaged}
@@ -38,10 +38,11 @@ use Rattle.rules_surveys.proofs.Headlines as surveys
 use Rattle.rules_reads.specs.Audio.{audioNumber, AudioRead}
 use Rattle.rules_reads.specs.Time.{TimeRead}
 use Rattle.rules_reads.proofs.Headlines as reads
-use Rattle.rules_reads.proofs.Audio.{audio-rows, read-audio-one}
+use Rattle.rules_reads.proofs.Audio.{audio-1, audio-zero, audio-rows, audio-taken, read-audio-one}
 use Rattle.rules_reads.proofs.Answering.{audio-number}
 use Rattle.rules_reads.proofs.GroundsAudio.{mode-first}
 use Rattle.rules_replaces.specs.Replace.{Replaced, Takes}
+use Rattle.rules_replaces.proofs.Replace.{takes-taken}
 use Rattle.rules_replaces.proofs.Replacing.{by-replaced, takes-above, takes-below, takes-few, stored-count, replaces}
 use Rattle.rules_replaces.proofs.Headlines as replacing
 use Rattle.rules_writes.specs.Write.{Wrote}
@@ -184,3 +185,53 @@ module _ {k : ℕ} {f : List ℕ} {c : ℕ} {samples : List ℤ} {g : List ℕ} 
       let z : r ≡ 0 = sym (writes.write-answers k l′ frame .no-other (r, w) wrote 0 table) in
       let wrote₀ : Wrote k l′ frame 0 w = subst (λ (m : ℕ). Wrote k l′ frame m w) z wrote in
       (z, sym (frame-decided wrote₀ (laid-new laid changed)))
+
+module _ {k : ℕ} {f : List ℕ} {c : ℕ} {samples : List ℤ} {g : List ℕ} (call : Replaced k f c samples 0 g) where
+  pub heard-again : {list heard : List ℤ} {o : AudioAnswer} → length list ≡ positions k → AudioRead k g c list o heard → HeardAgain samples list o heard
+  heard-again room read = by-replaced call (λ y known t. heard-new call y known t room read)
+
+  pub reads-else : ReadsElse k f c g
+  reads-else = by-replaced call (else-same call)
+
+  pub salvaged-again : {buffer before after : List ℤ} {list list₁ list₂ : List ℕ} {r r′ : Survey} → length buffer ≡ 8 * positions k
+      → Salvaged k f buffer list r before list₁ → Salvaged k g buffer list r′ after list₂ → (r ≡ r′) × (list₁ ≡ list₂) × SalvagedAgain k c samples before after
+  salvaged-again room a a′ = by-replaced call (λ y known t. salvaged-new call y known t room a a′)
+
+  -- of a frame that the writer made of l
+  pub made-again : {l l′ : Contents} {frame₀ : List ℕ} → Wrote k l frame₀ 0 f → Changed l c samples l′ → {frame w : List ℕ} {r : ℕ} → length frame ≡ length frame₀
+      → Wrote k l′ frame r w → (r ≡ 0) × (w ≡ g)
+  made-again {l} {l′} {frame₀} wrote changed {frame} same wrote′ =
+      let taken : writeTable k l (length frame₀) 0 = writes.write-answers k l frame₀ .numbered (0, f) wrote in
+      let four = row-past (λ e. omega (arith, e)) (row-past (λ e. omega (arith, e)) (row-past (λ e. omega (arith, e)) (row-past (λ e. omega (arith, e)) taken .1) .1) .1) in
+      let sounds : length (l .sound) ≡ 8 * l .count = by-eq (length (l .sound)) (8 * l .count) (λ e. e) (λ d. absurd (four .0 (inl d))) in
+      by-replaced call (λ y known t. made-new call y known t (writes-back wrote .laid-out) sounds changed (subst (λ (size : ℕ). writeTable k l size 0) (sym same) taken) wrote′)
+
+  -- of a frame in the writer's form, that holds l
+  pub form-made : HasForm k f → ((i : ℕ) → getD f i 0 < 256) → {l l′ : Contents} → FrameHolds k f l → Changed l c samples l′ → {o : TimeAnswer} → TimeRead k f o
+      → o .number ≡ 0 → {frame w : List ℕ} {r : ℕ} → length frame ≡ length f → Wrote k l′ frame r w → (r ≡ 0) × (w ≡ g)
+  form-made form bytes {l} {l′} holds changed {o} read z {frame} same wrote =
+      let timed : timeTable k f 0 = subst (timeTable k f) z (reads.time-answers k f .numbered o read) in
+      by-replaced call (λ y known t.
+      made-new call y known t (held-laid form bytes holds) (holds .sounds) changed
+      (held-taken (known-below k y known) form bytes holds timed (length frame) (same ∙ form .size)) wrote)
+
+-- ---- what is taken: any frame of which the channel is read, not marked, and as many samples as it has
+
+pub taken-when : {k : ℕ} {f : List ℕ} {c : ℕ} {list heard : List ℤ} {o : AudioAnswer} → AudioRead k f c list o heard → o .number ≡ 0 → modeStored k f c ≢ 0xF
+    → {samples : List ℤ} {r : ℕ} {g : List ℕ} → length samples ≡ o .count → (SomeOutside samples → ⊥) → Replaced k f c samples r g → r ≡ 0
+taken-when {k} {f} {c} {list} read z unmarked {samples} many inside call =
+    let zero : audioNumber k f c (length list) ≡ 0 = sym (audio-number k f c list read) ∙ z in
+    by-system k (λ none. absurd (omega (arith, zero, audio-1 k f c (length list) none)))
+    (λ y known.
+    let rows = audio-zero k f c (length list) y known zero in
+    let count = ap (λ (a : AudioAnswer). a .count) (audio-taken k f c list y known zero read .0) in
+    call .answer
+    ∙ takes-taken k f c samples y known (record {
+      whole = rows .0;
+      channel = rows .1;
+      checks = rows .3;
+      hears = rows .4;
+      counts = many ∙ count;
+      levels = by-bool (allInRange samples) (λ e. e) (λ e. absurd (inside (some-outside samples e)));
+      recorded = ne-eqb _ _ (λ m. unmarked (sym (mode-first k y known f c) ∙ m));
+    }))
