@@ -52,7 +52,7 @@ use Rattle.rules_format.proofs.Sound.{Half, sample-back, rank-below, audio-belo
 
 -- ---- how long each thing is
 
-word-wide : (y : System) (samples : List ℤ) (q a : ℕ) → Wide 2 (wordBytes y samples q a)
+pub word-wide : (y : System) (samples : List ℤ) (q a : ℕ) → Wide 2 (wordBytes y samples q a)
 unfolding wordBytes
 word-wide y samples q a w = refl
 

@@ -4,7 +4,7 @@ ghost use lib.ListN.{length};
 ghost use Rattle.base.specs.Pick.{pick};
 ghost use Rattle.rules_format.specs.Samples.{bytesOf};
 ghost use Rattle.sample_words.specs.Asked.{WordAsked, WordsAsked};
-ghost use Rattle.sample_words.specs.Words.{wordPair, pairsPut, wordsFit, wordsPut};
+ghost use Rattle.sample_words.specs.Words.{pairsPut, wordsPut, wordsFit};
 use paper::BlockNumber;
 use paper::System;
 
