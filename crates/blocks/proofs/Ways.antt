@@ -2,24 +2,19 @@
 use mathlib.Core.Path.{_≡_, refl, sym, ap, _∙_}
 use mathlib.Core.Bool.{Bool}
 use mathlib.Core.List.{List, [], _∷_, _++_, append-nil}
-use Prim.Native.Nat.{ℕ, _+_, _-_, _*_, _%_, _^_, _≤_, _<_}
-use native.Mathlib.Nat.{mod-eq-of-lt, mod-lt, mul-le-mul-left, le-antisymm, zero-add}
+use Prim.Native.Nat.{ℕ, _+_, _-_, _*_, _≤_, _<_}
+use native.Mathlib.Nat.{le-antisymm, zero-add}
 use native.Mathlib.Numerals.{add-one}
 use native.Mathlib.Omega.{arith}
-use lib.IntN.{ℤ, pos}
-use lib.Signed.{mag}
-use lib.ListN.{length, take, drop, getD, set, replicate}
-use lib.Seq.{drop-drop, take-all, paste-suc}
-use mir.Syntax.{w32, w64}
-use mir.Val.{toZ, ofZ, Fits}
-use mir.ValLaws.{toZ-ofZ}
-use borrow.Author.Tests.{lt-ltb, le-ltb}
+use lib.IntN.{ℤ}
+use lib.ListN.{length, take, drop, getD, set, replicate, length-append}
+use lib.Seq.{length-take-le, drop-at, drop-drop, take-all, paste-suc}
 use borrow.Rule.Slice.PartMut.{putMid, postOf}
+use Rattle.base.specs.Pick.{pick}
 use Rattle.base.specs.Run.{run}
-use Rattle.base.proofs.Picks.{pick-true, pick-false, pick-either}
-use Rattle.base.proofs.Runs.{run-same, tab-part}
+use Rattle.base.proofs.Runs.{tab-part}
 use Rattle.base.proofs.Filling.{Filled, filled-next, filled-end}
-use Rattle.base.proofs.Parts.{range-part, none-left, all-set}
+use Rattle.base.proofs.Parts.{length-part, range-part, none-left, all-set}
 use Rattle.paper.specs.declared.System.{System}
 use Rattle.paper.specs.declared.BlockId.{BlockId}
 use Rattle.paper.specs.declared.Pack.{Pack}
@@ -27,29 +22,21 @@ use Rattle.paper.specs.declared.SubcodeData.{SubcodeData}
 use Rattle.paper.specs.declared.SubcodePack.{SubcodePack}
 use Rattle.paper.specs.declared.Carried.{Carried}
 use Rattle.paper.specs.declared.Carried.the-variants.{Macroblock, Nothing}
-use Rattle.rules_format.specs.Systems.{halfOf}
 use Rattle.rules_format.specs.Ids.{idBytes}
 use Rattle.rules_packs.specs.Packs.{packBytes}
 use Rattle.rules_packs.specs.Header.{rateByte, headerBytes}
 use Rattle.rules_packs.specs.Subcode.{kindOf, subcodePack, frByte, ssyb, ssybs, subcodeBytes}
 use Rattle.rules_packs.specs.Vaux.{vauxPack, vauxPacks, vauxBytes}
 use Rattle.rules_packs.specs.Aaux.{aauxPack}
-use Rattle.rules_format.specs.Samples.{wordFor, bytesOf}
-use Rattle.rules_format.specs.Sound.{rankAt, firstAt}
 use Rattle.rules_picture.specs.Picture.{slot, carriedIn}
-use Rattle.rules_writes.specs.Written.{sampleWord, wordBytes, audioBytes, carriedBytes, videoBytes}
-use Rattle.rules_format.proofs.Systems.{half-cases}
-use Rattle.rules_format.proofs.Samples.{word-below}
-use Rattle.rules_format.proofs.Sound.{Half, half-some, half-le, first-below}
+use Rattle.rules_writes.specs.Written.{wordBytes, audioBytes, carriedBytes, videoBytes}
 use Rattle.rules_picture.proofs.Picture.{carried-lies}
 use Rattle.rules_packs.proofs.Subcode.{ssyb-length}
-use Rattle.blocks.specs.Asked.{WordsAsked, AudioAsked, VideoAsked}
-use Rattle.blocks.specs.Words.{wordPair}
+use Rattle.sample_words.specs.Words.{wordsPut, wordsFit}
+use Rattle.sample_words.proofs.Words.{put-fits, put-all}
+use Rattle.blocks.specs.Asked.{AudioAsked, VideoAsked}
 
 -- ---- the first bytes of a list, stored one after the other
-
-pub two-set : (xs : List ℕ) (a b : ℕ) → length xs ≡ 2 → set (set xs 0 a) 1 b ≡ a ∷ b ∷ []
-two-set xs a b = all-set xs (a ∷ b ∷ [])
 
 pub three-set : (xs : List ℕ) (a b c : ℕ) → length xs ≡ 3 → set (set (set xs 0 a) 1 b) 2 c ≡ a ∷ b ∷ c ∷ []
 three-set xs a b c = all-set xs (a ∷ b ∷ c ∷ [])
@@ -116,81 +103,23 @@ pub vaux-done : (xs ys zs ws : List ℕ) (id : BlockId) (vs vsc : Pack) (q k : �
 unfolding idBytes vauxBytes
 vaux-done xs ys zs ws id vs vsc q k n ey ez ew = rw (ez, ey, n, ew) refl
 
--- ---- audio: the words
+-- ---- audio
 
--- the number that was read is in 32 bits
-read-back : (xs : List ℤ) (t x : ℕ) → mag (getD xs t (pos 0)) < 2 ^ 31 → x ≡ wordFor (toZ w32 (ofZ w32 (getD xs t (pos 0)))) → x ≡ wordFor (getD xs t (pos 0))
-read-back xs t x low e = rw (toZ-ofZ w32 (getD xs t (pos 0)) (record { sfits = low })) at e
-
-pub word-here : (xs : List ℤ) (t x : ℕ) → t < length xs → mag (getD xs t (pos 0)) < 2 ^ 31 → x ≡ wordFor (toZ w32 (ofZ w32 (getD xs t (pos 0)))) → x ≡ sampleWord xs t
-unfolding sampleWord
-word-here xs t x h low e = read-back xs t x low e ∙ sym (pick-true _ _ (lt-ltb t (length xs) h))
-
-pub word-past : (xs : List ℤ) (t : ℕ) → length xs ≤ t → 0 ≡ sampleWord xs t
-unfolding sampleWord
-word-past xs t h = sym (pick-false _ _ (le-ltb t (length xs) h))
-
-pub sample-word-below : (xs : List ℤ) (t x : ℕ) → x ≡ sampleWord xs t → x < 65536
-unfolding sampleWord
-sample-word-below xs t x e = rw e (pick-either (λ w. w < 65536) _ (word-below (getD xs t (pos 0))) (omega arith))
-
-pub word-for-below : (z : ℤ) (x : ℕ) → x ≡ wordFor z → x < 65536
-word-for-below z x e = rw e (word-below z)
-
--- word w is sample t = step * w + first
-module _ (xs : List ℤ) (first step t w : ℕ) (at : t ≡ step * w + first) (start : first < step) (turns : step * 35 ≤ length xs) where
-  pub sample-within : w < 35 → t < length xs
-  sample-within h =
-      let l : step * (w + 1) ≤ step * 35 = mul-le-mul-left step (omega arith) in
-      omega arith
-
-  pub sample-next : t + step ≡ step * (w + 1) + first
-  sample-next = omega arith
-
-  pub sample-fits : w < 35 → step ≤ 54 → Fits w64 (t + step)
-  sample-fits h few =
-      let l : step * w ≤ step * 35 = mul-le-mul-left step (omega arith) in
-      omega arith
-
-  module _ (d part : List ℕ) (ex : Filled 2 (wordPair xs first step) w d part) where
-    pub words-turn : (ys : List ℕ) (x : ℕ) → w < 35 → mag (getD xs t (pos 0)) < 2 ^ 31 → x ≡ wordFor (toZ w32 (ofZ w32 (getD xs t (pos 0)))) → ys ≡ bytesOf x
-        → Filled 2 (wordPair xs first step) (w + 1) d (putMid (w * 2) (w * 2 + 2 - w * 2) part ys)
-    unfolding wordPair
-    words-turn ys x h low ew ey =
-        filled-next 2 (wordPair xs first step) (λ i. refl) w d part ys ex
-        (ey ∙ ap bytesOf (word-here xs t x (sample-within h) low ew ∙ ap (sampleWord xs) at))
-
-    pub words-done : (ys : List ℕ) (x : ℕ) → length d ≡ 72 → w ≤ 35 → 35 ≤ w → x ≡ sampleWord xs t → ys ≡ bytesOf x → putMid 70 2 part ys ≡ run (wordPair xs first step) 36
-    unfolding wordPair
-    words-done ys x n le ge ew ey =
-        let e : w ≡ 35 = le-antisymm le ge in
-        let whole : Filled 2 (wordPair xs first step) 35 d part = rw e at ex in
-        let last : ys ≡ wordPair xs first step 35 = ey ∙ ap bytesOf (ew ∙ ap (sampleWord xs) (at ∙ ap (λ (i : ℕ). step * i + first) e)) in
-        filled-end 2 (wordPair xs first step) 36 36 d (putMid 70 2 part ys) (filled-next 2 (wordPair xs first step) (λ i. refl) 35 d part ys whole last) n (omega arith) (omega arith)
-
--- ---- audio: the block
-
-module _ (y : System) (samples : List ℤ) (q a s first : ℕ) (es : s ≡ halfOf y) (ef : first ≡ firstAt (halfOf y) (rankAt (halfOf y) q) (a % 9)) (part : List ℕ) (asked : AudioAsked part 72 y samples a) where
-  first-is : first ≡ firstAt (halfOf y) (rankAt (halfOf y) q) a
-  first-is = ef ∙ rw (mod-eq-of-lt (asked .below)) refl
-
-  pub words-asked : WordsAsked part samples first (9 * s)
-  words-asked =
-      let half : Half (halfOf y) = half-cases y in
-      record {
-        long = asked .long;
-        turns = omega (arith, es, asked .turns);
-        start = rw (first-is, es) (first-below (halfOf y) half (rankAt (halfOf y) q) a (mod-lt q (half-some (halfOf y) half)) (asked .below));
-        few = omega (arith, es, half-le (halfOf y) half);
-      }
-
-  pub words-are : (ws : List ℕ) → ws ≡ run (wordPair samples first (9 * s)) 36 → ws ≡ run (wordBytes y samples q a) 36
-  unfolding wordPair wordBytes
-  words-are ws e = e ∙ run-same _ _ 36 (λ w hw. rw (first-is, es) refl)
+-- the last word is 0, and then the words are put
+module _ (y : System) (samples : List ℤ) (q a : ℕ) (part : List ℕ) (asked : AudioAsked part 72 y samples a) where
+  pub words-put : (ys zs : List ℕ) → ys ≡ replicate (length (take 2 (drop 70 part))) 0
+      → zs ≡ pick (wordsFit (length (putMid 70 2 part ys)) y (length samples) a) (wordsPut y samples q a (putMid 70 2 part ys)) (putMid 70 2 part ys) → zs ≡ run (wordBytes y samples q a) 36
+  words-put ys zs ey ez =
+      let two : ys ≡ 0 ∷ 0 ∷ [] = ey ∙ rw (length-part 70 2 part (omega (arith, asked .long))) refl in
+      let first : length (take 70 part) ≡ 70 = length-take-le 70 part (omega (arith, asked .long)) in
+      let rest : drop 2 (drop 70 part) ≡ [] = drop-drop 2 70 part ∙ none-left 72 part (asked .long) in
+      let last : drop 70 (putMid 70 2 part ys) ≡ 0 ∷ 0 ∷ [] = drop-at (take 70 part) _ 70 first ∙ rw (two, rest) refl in
+      let long : length (putMid 70 2 part ys) ≡ 72 = length-append (take 70 part) _ ∙ rw (first, two, rest) refl in
+      ez ∙ put-fits y samples q a (putMid 70 2 part ys) long (asked .below) (asked .turns) ∙ put-all y samples q a (putMid 70 2 part ys) long last
 
 module _ (xs : List ℕ) (y : System) (samples : List ℤ) (a : ℕ) (asked : AudioAsked xs 80 y samples a) where
-  pub samples-asked : (part : List ℕ) → length part ≡ 72 → AudioAsked part 72 y samples a
-  samples-asked part n = record { long = n; below = asked .below; turns = asked .turns }
+  pub words-asked : (part : List ℕ) → length part ≡ 72 → AudioAsked part 72 y samples a
+  words-asked part n = record { long = n; below = asked .below; turns = asked .turns }
 
   pub audio-done : (q : ℕ) (zs ps ws : List ℕ) (id : BlockId) (source asc p : Pack) → p ≡ aauxPack source asc q a → zs ≡ idBytes id → ps ≡ packBytes p
       → ws ≡ run (wordBytes y samples q a) 36 → putMid 8 72 (putMid 3 5 (zs ++ postOf 0 3 xs) ps) ws ≡ idBytes id ++ audioBytes y source asc samples q a

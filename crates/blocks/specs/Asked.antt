@@ -7,10 +7,6 @@ use lib.ListN.{length}
 use Rattle.paper.specs.declared.System.{System}
 use Rattle.rules_format.specs.Systems.{halfOf, macroblocksOf}
 
-pub record WordAsked (part : List ℕ) (word : ℕ) : Type 0 where
-  pub long : length part ≡ 2
-  pub small : word < 65536
-
 pub record SsybAsked (part : List ℕ) (k : ℕ) : Type 0 where
   pub long : length part ≡ 8
   pub below : k < 12
@@ -27,13 +23,6 @@ pub record PacksAsked (part : List ℕ) (k : ℕ) : Type 0 where
 pub record NumberAsked (block : List ℕ) (k blocks : ℕ) : Type 0 where
   pub long : length block ≡ 80
   pub below : k < blocks
-
--- 35 turns are within the samples
-pub record WordsAsked (part : List ℕ) (samples : List ℤ) (first step : ℕ) : Type 0 where
-  pub long : length part ≡ 72
-  pub turns : step * 35 ≤ length samples
-  pub start : first < step
-  pub few : step ≤ 54
 
 -- a part of so many bytes of A(a), and samples for 35 turns, each of 9s
 pub record AudioAsked (part : List ℕ) (size : ℕ) (y : System) (samples : List ℤ) (a : ℕ) : Type 0 where

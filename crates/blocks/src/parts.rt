@@ -1,12 +1,9 @@
-// Small parts of a block: an ID, a pack, a word.
+// Small parts of a block: an ID, a pack.
 ghost use mathlib.Core.Path.{_≡_};
 ghost use mathlib.Core.List.{[], _∷_};
-ghost use Prim.Native.Nat.{_<_};
 ghost use lib.ListN.{length};
 ghost use Rattle.rules_format.specs.Ids.{idBytes};
 ghost use Rattle.rules_packs.specs.Packs.{packBytes};
-ghost use Rattle.rules_format.specs.Samples.{bytesOf};
-ghost use Rattle.blocks.specs.Asked.{WordAsked};
 use paper::BlockId;
 use paper::Pack;
 

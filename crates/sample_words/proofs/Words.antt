@@ -1,19 +1,22 @@
 -- Laws of the words of an audio block: when a part fits them, and how long it is afterwards. Assumes nothing.
-use mathlib.Core.Path.{_≡_, _∙_}
+use mathlib.Core.Path.{_≡_, refl, sym, ap, _∙_}
 use mathlib.Core.Bool.{true}
-use mathlib.Core.List.{List}
+use mathlib.Core.List.{List, [], _∷_, append-nil}
 use Prim.Native.Nat.{ℕ, _*_, _≤_, _<_}
 use native.Mathlib.Omega.{arith}
 use lib.IntN.{ℤ}
 use lib.ListN.{length, drop, length-append, length-drop}
-use borrow.Author.Tests.{eq-eqb, lt-ltb, le-leb, eqb-true, ltb-true, leb-true}
+use borrow.Author.Tests.{eq-eqb, lt-ltb, le-ltb, le-leb, eqb-true, ltb-true, leb-true}
 use Rattle.base.specs.Pick.{pick}
 use Rattle.base.specs.Run.{run}
-use Rattle.base.proofs.Picks.{pick-true, pick-either, both-held, both-hold}
-use Rattle.base.proofs.Runs.{length-run}
+use Rattle.base.proofs.Cases.{by-lt}
+use Rattle.base.proofs.Picks.{pick-true, pick-false, pick-either, both-held, both-hold}
+use Rattle.base.proofs.Runs.{run-more, length-run}
+use Rattle.base.proofs.Parts.{none-left}
 use Rattle.paper.specs.declared.System.{System}
 use Rattle.rules_format.specs.Systems.{halfOf}
-use Rattle.rules_writes.specs.Written.{wordBytes}
+use Rattle.rules_format.specs.Sound.{rankAt, sampleAt}
+use Rattle.rules_writes.specs.Written.{sampleWord, wordBytes}
 use Rattle.rules_writes.proofs.Written.{word-wide}
 use Rattle.sample_words.specs.Words.{filledWith, wordsPut, wordsFit}
 
@@ -33,6 +36,10 @@ module _ (size : ℕ) (y : System) (n a : ℕ) where
 
 -- ---- wordsPut: in a part that fits
 
+word-past : (xs : List ℤ) (t : ℕ) → length xs ≤ t → 0 ≡ sampleWord xs t
+unfolding sampleWord
+word-past xs t h = sym (pick-false _ _ (le-ltb t (length xs) h))
+
 module _ (y : System) (samples : List ℤ) (q a : ℕ) (part : List ℕ) (long : length part ≡ 72) where
   filled-length : (n : ℕ) → n * 2 ≤ 72 → length (filledWith (wordBytes y samples q a) n part) ≡ 72
   filled-length n h =
@@ -42,6 +49,17 @@ module _ (y : System) (samples : List ℤ) (q a : ℕ) (part : List ℕ) (long :
   pub put-length : length (wordsPut y samples q a part) ≡ 72
   unfolding wordsPut
   put-length = pick-either (λ (n : ℕ). length (filledWith (wordBytes y samples q a) n part) ≡ 72) _ (filled-length 36 (omega arith)) (filled-length 35 (omega arith))
+
+  -- where the last word is 0, all 36: positions from the count on have the word 0
+  pub put-all : drop 70 part ≡ 0 ∷ 0 ∷ [] → wordsPut y samples q a part ≡ run (wordBytes y samples q a) 36
+  unfolding wordsPut wordBytes
+  put-all zero =
+      let t : ℕ = sampleAt (halfOf y) (rankAt (halfOf y) q) a 35 in
+      by-lt t (length samples)
+      (λ h. ap (λ (n : ℕ). filledWith (wordBytes y samples q a) n part) (pick-true 36 35 (lt-ltb t (length samples) h)) ∙ rw (none-left 72 part long) (append-nil _))
+      (λ h.
+      ap (λ (n : ℕ). filledWith (wordBytes y samples q a) n part) (pick-false 36 35 (le-ltb t (length samples) h))
+      ∙ rw (zero, run-more (wordBytes y samples q a) 35, ← word-past samples t h) refl)
 
   -- what `put_samples` leaves
   pub put-fits : a < 9 → 315 * halfOf y ≤ length samples → pick (wordsFit (length part) y (length samples) a) (wordsPut y samples q a part) part ≡ wordsPut y samples q a part

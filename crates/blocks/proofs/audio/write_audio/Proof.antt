@@ -1,6 +1,6 @@
 -- `blocks::audio::write_audio` meets its contract: the ID, the pack and the words. Assumes nothing.
 use borrow.Author.Needs.{needs}
-use Rattle.blocks.proofs.Ways.{samples-asked, audio-done}
+use Rattle.blocks.proofs.Ways.{words-asked, audio-done}
 use Rattle.blocks.proofs.audio.write_audio.Statement.{statement}
 use Rattle.blocks.proofs.audio.write_audio.Tie as tie
 
@@ -31,17 +31,17 @@ aaux-pack-requires c κs = search needs
 put-pack-requires : tie.Need-put-pack-requires
 put-pack-requires c κs = search needs
 
-sub-put-samples : tie.Need-sub-put-samples
-sub-put-samples c = search needs
+sub-put-words : tie.Need-sub-put-words
+sub-put-words c = search needs
 
-part-put-samples-start : tie.Need-part-put-samples-start
-part-put-samples-start c = search needs
+part-put-words-start : tie.Need-part-put-words-start
+part-put-words-start c = search needs
 
-part-put-samples-end : tie.Need-part-put-samples-end
-part-put-samples-end c = search needs
+part-put-words-end : tie.Need-part-put-words-end
+part-put-words-end c = search needs
 
-put-samples-requires : tie.Need-put-samples-requires
-put-samples-requires c κs = search (samples-asked, needs)
+put-words-requires : tie.Need-put-words-requires
+put-words-requires c κs = search (words-asked, needs)
 
 same-length : tie.Need-same-length
 same-length c = search needs
@@ -62,9 +62,9 @@ write-audio-spec =
     part-put-pack-end
     aaux-pack-requires
     put-pack-requires
-    sub-put-samples
-    part-put-samples-start
-    part-put-samples-end
-    put-samples-requires
+    sub-put-words
+    part-put-words-start
+    part-put-words-end
+    put-words-requires
     same-length
     returns)
