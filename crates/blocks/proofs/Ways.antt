@@ -113,9 +113,9 @@ module _ (y : System) (samples : List ℤ) (q a : ℕ) (part : List ℕ) (asked 
       let two : ys ≡ 0 ∷ 0 ∷ [] = ey ∙ rw (length-part 70 2 part (omega (arith, asked .long))) refl in
       let first : length (take 70 part) ≡ 70 = length-take-le 70 part (omega (arith, asked .long)) in
       let rest : drop 2 (drop 70 part) ≡ [] = drop-drop 2 70 part ∙ none-left 72 part (asked .long) in
-      let last : drop 70 (putMid 70 2 part ys) ≡ 0 ∷ 0 ∷ [] = drop-at (take 70 part) _ 70 first ∙ rw (two, rest) refl in
+      let tail : drop 70 (putMid 70 2 part ys) ≡ 0 ∷ 0 ∷ [] = drop-at (take 70 part) _ 70 first ∙ rw (two, rest) refl in
       let long : length (putMid 70 2 part ys) ≡ 72 = length-append (take 70 part) _ ∙ rw (first, two, rest) refl in
-      ez ∙ put-fits y samples q a (putMid 70 2 part ys) long (asked .below) (asked .turns) ∙ put-all y samples q a (putMid 70 2 part ys) long last
+      ez ∙ put-fits y samples q a (putMid 70 2 part ys) long (asked .below) (asked .turns) ∙ put-all y samples q a (putMid 70 2 part ys) long tail
 
 module _ (xs : List ℕ) (y : System) (samples : List ℤ) (a : ℕ) (asked : AudioAsked xs 80 y samples a) where
   pub words-asked : (part : List ℕ) → length part ≡ 72 → AudioAsked part 72 y samples a

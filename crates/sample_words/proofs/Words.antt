@@ -1,4 +1,4 @@
--- Laws of the words of an audio block: when a part fits them, and how long it is afterwards. Assumes nothing.
+-- Laws of the words of an audio block: when a part fits them, how long it is afterwards, and when it has all 36. Assumes nothing.
 use mathlib.Core.Path.{_≡_, refl, sym, ap, _∙_}
 use mathlib.Core.Bool.{true}
 use mathlib.Core.List.{List, [], _∷_, append-nil}
@@ -41,25 +41,25 @@ unfolding sampleWord
 word-past xs t h = sym (pick-false _ _ (le-ltb t (length xs) h))
 
 module _ (y : System) (samples : List ℤ) (q a : ℕ) (part : List ℕ) (long : length part ≡ 72) where
-  filled-length : (n : ℕ) → n * 2 ≤ 72 → length (filledWith (wordBytes y samples q a) n part) ≡ 72
-  filled-length n h =
-      length-append (run (wordBytes y samples q a) n) (drop (n * 2) part)
-      ∙ omega (arith, length-run 2 (wordBytes y samples q a) (word-wide y samples q a) n, length-drop (n * 2) part)
+  -- the first n words
+  abbrev filled : ℕ → List ℕ
+  filled n = filledWith (wordBytes y samples q a) n part
+
+  filled-length : (n : ℕ) → n * 2 ≤ 72 → length (filled n) ≡ 72
+  filled-length n h = omega (arith, length-append (run (wordBytes y samples q a) n) (drop (n * 2) part), length-run 2 (wordBytes y samples q a) (word-wide y samples q a) n, length-drop (n * 2) part)
 
   pub put-length : length (wordsPut y samples q a part) ≡ 72
   unfolding wordsPut
-  put-length = pick-either (λ (n : ℕ). length (filledWith (wordBytes y samples q a) n part) ≡ 72) _ (filled-length 36 (omega arith)) (filled-length 35 (omega arith))
+  put-length = pick-either (λ (n : ℕ). length (filled n) ≡ 72) _ (filled-length 36 (omega arith)) (filled-length 35 (omega arith))
 
-  -- where the last word is 0, all 36: positions from the count on have the word 0
+  -- all 36, where the last word of the part is 0: so is that of a position past the count
   pub put-all : drop 70 part ≡ 0 ∷ 0 ∷ [] → wordsPut y samples q a part ≡ run (wordBytes y samples q a) 36
   unfolding wordsPut wordBytes
-  put-all zero =
+  put-all tail =
       let t : ℕ = sampleAt (halfOf y) (rankAt (halfOf y) q) a 35 in
       by-lt t (length samples)
-      (λ h. ap (λ (n : ℕ). filledWith (wordBytes y samples q a) n part) (pick-true 36 35 (lt-ltb t (length samples) h)) ∙ rw (none-left 72 part long) (append-nil _))
-      (λ h.
-      ap (λ (n : ℕ). filledWith (wordBytes y samples q a) n part) (pick-false 36 35 (le-ltb t (length samples) h))
-      ∙ rw (zero, run-more (wordBytes y samples q a) 35, ← word-past samples t h) refl)
+      (λ h. ap filled (pick-true 36 35 (lt-ltb t (length samples) h)) ∙ rw (none-left 72 part long) (append-nil _))
+      (λ h. ap filled (pick-false 36 35 (le-ltb t (length samples) h)) ∙ rw (tail, run-more (wordBytes y samples q a) 35, ← word-past samples t h) refl)
 
   -- what `put_samples` leaves
   pub put-fits : a < 9 → 315 * halfOf y ≤ length samples → pick (wordsFit (length part) y (length samples) a) (wordsPut y samples q a part) part ≡ wordsPut y samples q a part
