@@ -64,14 +64,10 @@ module _ (xs : List ℤ) (first step t w : ℕ) (at : t ≡ step * w + first) (s
       omega arith
 
   module _ (d part : List ℕ) (ex : Filled 2 (wordPair xs first step) w d part) where
-    word-put : (ys : List ℕ) (x : ℕ) → t < length xs → mag (getD xs t (pos 0)) < 2 ^ 31 → x ≡ wordFor (toZ w32 (ofZ w32 (getD xs t (pos 0)))) → ys ≡ bytesOf x
+    pub word-put : (ys : List ℕ) (x : ℕ) → t < length xs → mag (getD xs t (pos 0)) < 2 ^ 31 → x ≡ wordFor (toZ w32 (ofZ w32 (getD xs t (pos 0)))) → ys ≡ bytesOf x
         → Filled 2 (wordPair xs first step) (w + 1) d (putMid (w * 2) (w * 2 + 2 - w * 2) part ys)
     unfolding wordPair
     word-put ys x h low ew ey = filled-next 2 (wordPair xs first step) (λ i. refl) w d part ys ex (ey ∙ ap bytesOf (word-here xs t x h low ew ∙ ap (sampleWord xs) at))
-
-    pub words-turn : (ys : List ℕ) (x : ℕ) → w < 35 → mag (getD xs t (pos 0)) < 2 ^ 31 → x ≡ wordFor (toZ w32 (ofZ w32 (getD xs t (pos 0)))) → ys ≡ bytesOf x
-        → Filled 2 (wordPair xs first step) (w + 1) d (putMid (w * 2) (w * 2 + 2 - w * 2) part ys)
-    words-turn ys x h = word-put ys x (sample-within h)
 
     -- after 35 turns the last word is written, or it is past the count
     module _ (le : w ≤ 35) (ge : 35 ≤ w) where

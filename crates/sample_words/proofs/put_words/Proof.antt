@@ -6,7 +6,7 @@ use lib.ListN.{length}
 use borrow.Author.Needs.{needs}
 use Rattle.base.proofs.Filling.{Filled, filled-none}
 use Rattle.sample_words.specs.Words.{wordPair}
-use Rattle.sample_words.proofs.Ways.{sample-within, sample-next, sample-fits, word-for-below, words-turn, last-put, last-past}
+use Rattle.sample_words.proofs.Ways.{sample-within, sample-next, sample-fits, word-for-below, word-put, last-put, last-past}
 use Rattle.sample_words.proofs.put_words.Statement.{statement}
 use Rattle.sample_words.proofs.put_words.Tie as tie
 
@@ -56,7 +56,7 @@ loop-less : tie.Need-loop-less Inv-loop μ-loop
 loop-less c = search needs
 
 loop-again : tie.Need-loop-again Inv-loop μ-loop
-loop-again c = (search (words-turn, needs), search (sample-next, needs), search needs, search needs)
+loop-again c = (search (word-put, sample-within, needs), search (sample-next, needs), search needs, search needs)
 
 mul-x-2 : tie.Need-mul-x-2 Inv-loop μ-loop
 mul-x-2 c = search needs
