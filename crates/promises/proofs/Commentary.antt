@@ -3,7 +3,7 @@
 use mathlib.Core.Path.{_≡_, refl, sym, ap₂, _∙_}
 use mathlib.Core.List.{List}
 use mathlib.Core.Logic.{_≢_}
-use Prim.Native.Nat.{ℕ, _+_, _*_, _/_, _%_, _≤_, _<_}
+use Prim.Native.Nat.{ℕ, _+_, _-_, _*_, _/_, _%_, _≤_, _<_}
 use native.Mathlib.Omega.{arith}
 use lib.Dec.{eqb}
 use lib.IntN.{ℤ, pos}
@@ -11,6 +11,7 @@ use lib.ListN.{length, getD}
 use lib.Seq.{ext-getD}
 use borrow.Author.Tests.{eqb-true, eqb-false}
 use Rattle.base.proofs.Below.{below-means, by-below}
+use Rattle.base.proofs.Cases.{by-lt, by-eq}
 use Rattle.base.proofs.Parts.{digit-one}
 use Rattle.paper.specs.declared.System.{System}
 use Rattle.paper.specs.declared.SystemNumber.the-variants.{Known}
@@ -18,7 +19,7 @@ use Rattle.paper.specs.declared.AudioAnswer.{AudioAnswer}
 use Rattle.paper.specs.Paper.{sequences, positions, sectionAt, figure3, soundIndex, soundStart, soundWord, wordBy}
 use Rattle.promises.specs.Refusals.{countStored}
 use Rattle.promises.specs.Unrecorded.{SameButAudio}
-use Rattle.promises.specs.Commentary.{Elsewhere, Exchanged, HeardAgain}
+use Rattle.promises.specs.Commentary.{Elsewhere, Exchanged, HeardAgain, SalvagedAgain}
 use Rattle.rules_format.specs.Systems.{halfOf, systemOf}
 use Rattle.rules_format.proofs.Systems.{half-cases}
 use Rattle.rules_format.proofs.Sound.{audio-below}
@@ -26,7 +27,7 @@ use Rattle.rules_format.proofs.Paper.{columns}
 use Rattle.rules_format.proofs.Numbers.{word-within}
 use Rattle.rules_format.proofs.Starts.{start-one}
 use Rattle.promises.proofs.Apart.{SameAs}
-use Rattle.promises.proofs.One.{lists-one}
+use Rattle.promises.proofs.One.{lists-one, channels-one}
 
 -- ---- one answer
 
@@ -49,6 +50,16 @@ heard-again-one {samples} m m′ = (
   m .answer ∙ sym (m′ .answer),
   lists-one (length samples) (m .size ∙ sym (m′ .size)) (λ t h. m .sample t h ∙ sym (m′ .sample t h)) (m .rest ∙ sym (m′ .rest)),
 )
+
+-- a position below the count of its channel, or any other
+pub salvaged-again-one : {k c : ℕ} {samples before after after′ : List ℤ} → SalvagedAgain k c samples before after → SalvagedAgain k c samples before after′ → after ≡ after′
+salvaged-again-one {k} {c} {samples} {before} {after} {after′} m m′ =
+    channels-one (positions k) (m .size) (m′ .size) (λ d t d1 d8 h.
+    let else : (d ≡ c → length samples ≤ t) → getD after ((d - 1) * positions k + t) (pos 0) ≡ getD after′ ((d - 1) * positions k + t) (pos 0) =
+    λ other. m .others d t d1 d8 h other ∙ sym (m′ .others d t d1 d8 h other) in
+    by-eq d c
+    (λ own. by-lt t (length samples) (λ below. rw own (m .sample t below ∙ sym (m′ .sample t below))) (λ past. else (λ e. past)))
+    (λ ne. else (λ e. absurd (ne e))))
 
 -- ---- Exchanged: what is as it was
 

@@ -15,7 +15,10 @@ use Rattle.paper.specs.declared.Survey.{Survey}
 use Rattle.paper.specs.declared.AudioAnswer.{AudioAnswer}
 use Rattle.promises.specs.Demand3.{Listed, SalvageOut, Salvages, SampleSalvaged}
 use Rattle.promises.specs.Unrecorded.{Marks, ComesBackLost, SameButAudio, SameButAaux}
+use Rattle.promises.specs.Commentary.{Exchanged, HeardAgain, SalvagedAgain, Changed}
 use Rattle.promises.proofs.Apart.{audio-free, aaux-free}
+use Rattle.promises.proofs.Commentary.{exchanged-one, heard-again-one, salvaged-again-one}
+use Rattle.promises.proofs.Holding.{changed-exactly}
 use Rattle.promises.proofs.Unrecorded.{marks-one, marks-bits, already-marked}
 use Rattle.rules_format.proofs.Paper.{known-system}
 use Rattle.promises.proofs.One.{listed-one, ids-one, views-one, macroblocks-one, reads-one, reads-back-one, salvages-one, salvage-out-one}
@@ -26,16 +29,17 @@ use Rattle.paper.specs.declared.IdValues.{IdValues}
 use Rattle.paper.specs.declared.Part.{Part}
 use Rattle.promises.proofs.LaidOut.{laid-out-one}
 use Rattle.promises.specs.Refusals.{idTable, surveyTable, salvageTable, sequenceTable, viewTable, checkTable, audioTable, macroblockTable, timeTable}
-use Rattle.promises.specs.Refusals.{writeTable, asByte}
+use Rattle.promises.specs.Refusals.{replaceTable, writeTable, asByte}
 use Rattle.promises.proofs.OneNumber.{One, id-one, survey-one, salvage-one, sequence-one, view-one, check-one, audio-one, macroblock-one, time-one}
-use Rattle.promises.proofs.OneNumber.{write-one}
+use Rattle.promises.proofs.OneNumber.{replace-one, write-one}
 
 -- ---- 1: a refusal table gives one number at most
 
-pub one-number : (k h q p c b size room : ℕ) (f id : List ℕ) (l : Contents)
+pub one-number : (k h q p c b size room : ℕ) (f id : List ℕ) (samples : List ℤ) (l : Contents)
     → One (idTable id) × One (surveyTable k size) × One (sequenceTable k h q size) × One (viewTable k f h q p) × One (checkTable k f)
-    × One (audioTable k f c room) × One (macroblockTable k f b) × One (timeTable k f) × One (salvageTable k size room) × One (writeTable k l size)
-one-number k h q p c b size room f id l = (
+    × One (audioTable k f c room) × One (macroblockTable k f b) × One (timeTable k f) × One (salvageTable k size room)
+    × One (replaceTable k f c samples) × One (writeTable k l size)
+one-number k h q p c b size room f id samples l = (
   id-one id,
   survey-one k size,
   sequence-one k h q size,
@@ -45,6 +49,7 @@ one-number k h q p c b size room f id l = (
   macroblock-one k f b,
   time-one k f,
   salvage-one k size room,
+  replace-one k f c samples,
   write-one k l size,
 )
 
@@ -97,6 +102,23 @@ any-audio = audio-free
 
 pub any-aaux : (k : ℕ) (f : List ℕ) (j b v : ℕ) → sectionAt (j % 150) ≡ 3 → 3 ≤ b → b < 8 → SameButAaux k f (set f (j * 80 + b) v)
 any-aaux = aaux-free
+
+-- ---- a new commentary channel: the frame after, what is read and salvaged of it, and the changed contents
+
+pub one-exchange : {k : ℕ} {f : List ℕ} {c : ℕ} {samples : List ℤ} {g g′ : List ℕ} → Exchanged k f c samples g → Exchanged k f c samples g′ → g ≡ g′
+one-exchange = exchanged-one
+
+pub one-heard-again : {samples before : List ℤ} {o o′ : AudioAnswer} {after after′ : List ℤ} → HeardAgain samples before o after
+    → HeardAgain samples before o′ after′ → (o ≡ o′) × (after ≡ after′)
+one-heard-again = heard-again-one
+
+pub one-salvaged-again : {k c : ℕ} {samples before after after′ : List ℤ} → SalvagedAgain k c samples before after
+    → SalvagedAgain k c samples before after′ → after ≡ after′
+one-salvaged-again = salvaged-again-one
+
+pub one-changed : (l : Contents) (c : ℕ) (samples : List ℤ) → 0 < c → c < 9 → length samples ≡ l .count → length (l .sound) ≡ 8 * l .count
+    → ExactlyOne Contents (Changed l c samples)
+one-changed = changed-exactly
 
 -- ---- 3: the fault list, and what is salvaged
 

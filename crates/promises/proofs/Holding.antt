@@ -8,6 +8,7 @@ use native.Mathlib.Omega.{arith}
 use lib.IntN.{ℤ, pos}
 use lib.ListN.{length, getD}
 use borrow.Author.Tests.{le-leb, lt-leb, ne-eqb}
+use Rattle.base.specs.Calls.{ExactlyOne}
 use Rattle.base.specs.Pick.{pick}
 use Rattle.base.specs.Put.{putAt}
 use Rattle.base.proofs.Cases.{by-lt, by-eq}
@@ -108,7 +109,7 @@ held-taken {k} {f} {l} below form bytes holds read size whole =
 
 -- ---- Changed: what was taken is taken with other samples, and there are such contents
 
-abbrev pub exchangedIn : Contents → ℕ → List ℤ → Contents
+abbrev exchangedIn : Contents → ℕ → List ℤ → Contents
 exchangedIn l c samples = record {
   count = l .count;
   sound = putAt ((c - 1) * l .count) samples (l .sound);
@@ -149,7 +150,7 @@ module _ (l : Contents) (c : ℕ) (samples : List ℤ) (c1 : 0 < c) (c8 : c < 9)
   fits : (c - 1) * l .count + length samples ≤ length (l .sound)
   fits = let b : c - 1 < 8 = omega arith in omega (arith, many, sounds, end-within (l .count) (c - 1) 8 b)
 
-  pub some-changed : Changed l c samples (exchangedIn l c samples)
+  some-changed : Changed l c samples (exchangedIn l c samples)
   some-changed = record {
     count = refl;
     sounds = put-length ((c - 1) * l .count) samples (l .sound) fits;
@@ -168,7 +169,7 @@ module _ (l : Contents) (c : ℕ) (samples : List ℤ) (c1 : 0 < c) (c8 : c < 9)
   }
 
   -- and no others
-  pub changed-one : {l₁ l₂ : Contents} → Changed l c samples l₁ → Changed l c samples l₂ → l₁ ≡ l₂
+  changed-one : {l₁ l₂ : Contents} → Changed l c samples l₁ → Changed l c samples l₂ → l₁ ≡ l₂
   changed-one {l₁} {l₂} a b =
       let count : l₁ .count ≡ l₂ .count = a .count ∙ sym (b .count) in
       let sound : l₁ .sound ≡ l₂ .sound =
@@ -185,3 +186,6 @@ module _ (l : Contents) (c : ℕ) (samples : List ℤ) (c1 : 0 < c) (c8 : c < 9)
         timeCode = (a .time ∙ sym (b .time)) i;
         binaryGroup = (a .group ∙ sym (b .group)) i;
       }
+
+  pub changed-exactly : ExactlyOne Contents (Changed l c samples)
+  changed-exactly = record { outcome = exchangedIn l c samples; meets = some-changed; only = λ o m. changed-one m some-changed }

@@ -1,8 +1,10 @@
 -- A frame that is laid out of contents, with one audio channel exchanged, is laid out of the changed contents. Assumes nothing.
 use mathlib.Core.Path.{_≡_, refl, sym, ap, ap₂, _∙_}
 use mathlib.Core.List.{List}
+use mathlib.Core.Logic.{_≢_}
 use Prim.Native.Nat.{ℕ, _+_, _*_, _/_, _%_, _≤_, _<_}
 use native.Mathlib.Omega.{arith}
+use lib.Dec.{ltb}
 use lib.IntN.{ℤ}
 use lib.ListN.{getD}
 use borrow.Author.Tests.{eq-eqb}
@@ -12,11 +14,11 @@ use Rattle.base.proofs.Picks.{pick-either}
 use Rattle.paper.specs.declared.System.{System}
 use Rattle.paper.specs.declared.SystemNumber.the-variants.{Known}
 use Rattle.paper.specs.Paper.{sequences, positions, byteAt, soundChannel, soundFirst, wordBy, countBy, countSaid, asPack, asPlace, slotPlace}
-use Rattle.paper.specs.Bytes.{ssybForm, aauxForm}
+use Rattle.paper.specs.Bytes.{halfIn, ssybForm, aauxForm}
 use Rattle.promises.specs.Contents.{Contents}
 use Rattle.promises.specs.Form.{cut, timeBytes, groupBytes, sizeByte, HasForm}
 use Rattle.promises.specs.Demand2.{LaidOut}
-use Rattle.promises.specs.Refusals.{countStored}
+use Rattle.promises.specs.Refusals.{countStored, modeStored}
 use Rattle.promises.specs.Commentary.{Exchanged, Changed}
 use Rattle.rules_format.specs.Systems.{systemOf}
 use Rattle.rules_format.proofs.Paper.{known-below}
@@ -42,6 +44,21 @@ size-said {k} {f} form h q hh hq =
     cut-byte (sequences k) f h q (asPlace q) 3 5 1 (omega arith)
     ∙ ap (λ (l : List ℕ). getD l 1 0) (form .aaux h q (asPack q) hh hq (as-below q))
     ∙ rw (eq-eqb (asPack q) (asPack q) refl) refl
+
+half-below : (k q : ℕ) → halfIn k q < 2
+half-below k q = pick-either (λ (x : ℕ). x < 2) (ltb q (sequences k / 2)) (omega arith) (omega arith)
+
+-- no AS is marked
+pub form-mode : {k : ℕ} {f : List ℕ} → HasForm k f → k < 4 → (c : ℕ) → c < 9 → modeStored k f c ≢ 0xF
+unfolding aauxForm pick
+form-mode {k} {f} form below c c8 m =
+    let h : ℕ = soundChannel c in
+    let q : ℕ = soundFirst (sequences k) c in
+    let said : byteAt (sequences k) f h q (asPlace q) 5 ≡ 0x10 + halfIn k q =
+    cut-byte (sequences k) f h q (asPlace q) 3 5 2 (omega arith)
+    ∙ ap (λ (l : List ℕ). getD l 2 0) (form .aaux h q (asPack q) (omega arith) (first-below k c below) (as-below q))
+    ∙ rw (eq-eqb (asPack q) (asPack q) refl) refl in
+    omega (arith, m, said, half-below k q)
 
 pub form-count : {k : ℕ} {f : List ℕ} → HasForm k f → k < 4 → (c : ℕ) → c < 9 → countStored k f c ≡ countSaid (sequences k) f 0 0
 form-count {k} form below c c8 =

@@ -4,11 +4,12 @@ use mathlib.Core.List.{List}
 use mathlib.Core.Logic.{⊎-elim}
 use Prim.Native.Nat.{ℕ}
 use native.Mathlib.Omega.{arith}
+use lib.IntN.{ℤ}
 use Rattle.base.proofs.Cases.{by-lt, by-eq}
 use Rattle.paper.specs.Paper.{streamFault}
 use Rattle.promises.specs.Contents.{Contents}
 use Rattle.promises.specs.Refusals.{Table, _if_, _else_, none, FirstFault, OwnFault, checked, idTable, surveyTable, salvageTable, sequenceTable}
-use Rattle.promises.specs.Refusals.{viewTable, checkTable, audioTable, macroblockTable, timeTable, writeTable}
+use Rattle.promises.specs.Refusals.{viewTable, checkTable, audioTable, macroblockTable, timeTable, sounded, replaceTable, writeTable}
 
 abbrev pub One : Table → Type 0
 One table = (r r′ : ℕ) → table r → table r′ → r ≡ r′
@@ -48,6 +49,9 @@ own-one n f h q p r r′ g g′ = g .is ∙ sym (g′ .is)
 checked-one : (k : ℕ) (f : List ℕ) (rows : Table) → One rows → One (checked k f rows)
 checked-one k f rows b = else-one _ _ (first-one _ f) (row 21 _ _ (row 22 _ rows b))
 
+sounded-one : (k : ℕ) (f : List ℕ) (c : ℕ) (rows : Table) → One rows → One (sounded k f c rows)
+sounded-one k f c rows b = row 23 _ _ (row 24 _ _ (row 25 _ rows b))
+
 -- ---- call by call
 
 pub id-one : (id : List ℕ) → One (idTable id)
@@ -69,7 +73,10 @@ pub check-one : (k : ℕ) (f : List ℕ) → One (checkTable k f)
 check-one k f = row 1 _ _ (row 2 _ _ (checked-one k f none none-one))
 
 pub audio-one : (k : ℕ) (f : List ℕ) (c room : ℕ) → One (audioTable k f c room)
-audio-one k f c room = row 1 _ _ (row 2 _ _ (row 3 _ _ (row 4 _ _ (checked-one k f _ (row 23 _ _ (row 24 _ _ (row 25 _ none none-one)))))))
+audio-one k f c room = row 1 _ _ (row 2 _ _ (row 3 _ _ (row 4 _ _ (checked-one k f _ (sounded-one k f c none none-one)))))
+
+pub replace-one : (k : ℕ) (f : List ℕ) (c : ℕ) (samples : List ℤ) → One (replaceTable k f c samples)
+replace-one k f c samples = row 1 _ _ (row 2 _ _ (row 3 _ _ (checked-one k f _ (sounded-one k f c _ (row 29 _ _ (row 31 _ _ (row 33 _ none none-one)))))))
 
 pub macroblock-one : (k : ℕ) (f : List ℕ) (b : ℕ) → One (macroblockTable k f b)
 macroblock-one k f b = row 1 _ _ (row 2 _ _ (row 3 _ _ (checked-one k f _ (row 23 _ none none-one))))
