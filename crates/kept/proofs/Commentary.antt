@@ -6,7 +6,7 @@ use mathlib.Core.Logic.{inl, ⊎-elim, _≢_}
 use Prim.Native.Nat.{ℕ, _+_, _-_, _*_, _≤_, _<_}
 use native.Mathlib.Omega.{arith}
 use lib.IntN.{ℤ, pos}
-use lib.ListN.{length, getD}
+use lib.ListN.{length, getD, replicate, length-replicate}
 use borrow.Author.Tests.{eq-eqb, ne-eqb, eqb-false}
 use Rattle.base.proofs.Cases.{by-bool, by-eq}
 use Rattle.paper.specs.declared.System.{System}
@@ -14,7 +14,7 @@ use Rattle.paper.specs.declared.SystemNumber.the-variants.{Known}
 use Rattle.paper.specs.declared.AudioAnswer.{AudioAnswer}
 use Rattle.paper.specs.declared.TimeAnswer.{TimeAnswer}
 use Rattle.paper.specs.declared.Survey.{Survey}
-use Rattle.paper.specs.Paper.{sequences, positions, soundIndex, soundFirst, sampleBy, wordBy, back, countSaid}
+use Rattle.paper.specs.Paper.{sequences, positions, macroblocks, soundIndex, soundWord, soundFirst, sampleBy, wordBy, back, countSaid}
 use Rattle.promises.specs.Contents.{Contents}
 use Rattle.promises.specs.Form.{HasForm}
 use Rattle.promises.specs.Demand2.{LaidOut}
@@ -26,11 +26,12 @@ use Rattle.promises.proofs.Tables.{row-past, row-on, none-outside, some-outside
 use Rattle.promises.proofs.Apart.{SameAs, SameWords, audio-gives, sound-gives, count-same, mode-same, some-sequence, fault-same, listed-same, all-named}
 use Rattle.promises.proofs.One.{listed-one}
 use Rattle.promises.proofs.Commentary.{exchanged-apart, exchanged-as, word-new, word-else}
-use Rattle.promises.proofs.LaidAgain.{form-count, laid-again}
+use Rattle.promises.proofs.LaidAgain.{form-mode, form-count, laid-again}
 use Rattle.promises.proofs.Holding.{held-laid, held-taken, changed-taken}
 use Rattle.rules_format.specs.Systems.{systemOf}
 use Rattle.rules_format.specs.Samples.{inRange, allInRange}
-use Rattle.rules_format.proofs.Paper.{columns, known-below, by-system}
+use Rattle.rules_format.proofs.Paper.{columns, known-below, known-system, by-system}
+use Rattle.rules_format.proofs.Systems.{macroblocks-some}
 use Rattle.rules_format.proofs.Samples.{word-is, heard-is, back-is, number-again, all-in}
 use Rattle.rules_format.proofs.Numbers.{sound-within}
 use Rattle.rules_surveys.specs.Salvage.{Salvaged}
@@ -48,9 +49,9 @@ use Rattle.rules_replaces.proofs.Headlines as replacing
 use Rattle.rules_writes.specs.Write.{Wrote}
 use Rattle.rules_writes.proofs.Headlines as writes
 use Rattle.kept.specs.ReadsElse.{ReadsElse}
-use Rattle.kept.proofs.Together.{audio-out}
+use Rattle.kept.proofs.Together.{audio-beside, audio-out}
 use Rattle.kept.proofs.WritingBack.{writes-back, frame-decided}
-use Rattle.kept.proofs.Alike.{given, same-audio, same-check, same-survey, same-macroblock, same-macroblock-at, same-time}
+use Rattle.kept.proofs.Alike.{first-rows, given, same-audio, same-check, same-survey, same-macroblock, same-macroblock-at, same-time}
 
 -- ---- a sample in range, written and read
 
@@ -235,3 +236,40 @@ taken-when {k} {f} {c} {list} read z unmarked {samples} many inside call =
       levels = by-bool (allInRange samples) (λ e. e) (λ e. absurd (inside (some-outside samples e)));
       recorded = ne-eqb _ _ (λ m. unmarked (sym (mode-first k y known f c) ∙ m));
     }))
+
+-- a frame that our writer made, with as many samples as it was given
+pub ours-taken : {k : ℕ} {l : Contents} {frame f : List ℕ} → Wrote k l frame 0 f → {c : ℕ} → 0 < c → c < 9 → {samples : List ℤ} {r : ℕ} {g : List ℕ}
+    → length samples ≡ l .count → (SomeOutside samples → ⊥) → Replaced k f c samples r g → r ≡ 0
+ours-taken {k} {l} {frame} {f} wrote {c} c1 c8 many inside call =
+    let below : k < 4 = first-rows (writes.write-answers k l frame .numbered (0, f) wrote) .0 in
+    known-system k below (λ y known.
+    let list : List ℤ = replicate (positions k) (pos 0) in
+    let room : length list ≡ positions k = length-replicate (positions k) (pos 0) in
+    let first : 0 < macroblocks k = omega (arith, macroblocks-some y, columns k y known .macroblocks-is) in
+    let one = read-audio-one k f c list in
+    let back = writes-back wrote .reads-back c list 0 _ c1 c8 room first (audio-beside (one .meets)) in
+    taken-when (one .meets) (ap (λ (a : AudioAnswer). a .number) (back .audio)) (form-mode (writes-back wrote .laid-out .form) below c c8)
+    (many ∙ sym (ap (λ (a : AudioAnswer). a .count) (back .audio))) inside call)
+
+-- ---- what is refuted
+
+-- lost is not silence
+pub silenced : {k : ℕ} {f : List ℕ} {c : ℕ} {samples : List ℤ} {g : List ℕ} → Replaced k f c samples 0 g → (t : ℕ) → t < length samples
+    → getD samples t (pos 0) ≡ pos 32768 → soundWord (sequences k) g c t ≡ 0 → ⊥
+unfolding wordBy
+silenced {k} {f} {c} {samples} call t h e silent =
+    by-replaced call (λ y known takes.
+    let word = word-new (replaces call) y known (takes-above takes) (takes-below takes) (few call y known takes) t (omega (arith, h, stored-count k y known f c samples takes)) in
+    omega (arith, silent, word ∙ ap wordBy e))
+
+-- a frame that is left as it was holds no other samples
+pub left-alone : {k : ℕ} {f : List ℕ} {c : ℕ} {samples samples′ : List ℤ} → Replaced k f c samples 0 f → Replaced k f c samples′ 0 f → (t : ℕ) → t < length samples
+    → back (getD samples t (pos 0)) ≡ back (getD samples′ t (pos 0))
+left-alone {k} {f} {c} {samples} {samples′} call call′ t h =
+    by-replaced call (λ y known takes.
+    by-replaced call′ (λ y′ known′ takes′.
+    let list : List ℤ = replicate (positions k) (pos 0) in
+    let room : length list ≡ positions k = length-replicate (positions k) (pos 0) in
+    let one = read-audio-one k f c list in
+    let h′ : t < length samples′ = omega (arith, h, stored-count k y known f c samples takes, stored-count k y′ known′ f c samples′ takes′) in
+    sym (heard-again call room (one .meets) .sample t h) ∙ heard-again call′ room (one .meets) .sample t h′))

@@ -1,5 +1,5 @@
 -- The promises are kept, of any answer that the contracts of the public calls allow. Each theorem cites its workshop; what it says is in crate `promises`
--- (`Demand1`, `Demand2`, `Demand3`, `Unrecorded`; `Refusals`, `Form`), in the words of crate `paper`. Assumes nothing.
+-- (`Demand1`, `Demand2`, `Demand3`, `Unrecorded`, `Commentary`; `Refusals`, `Form`), in the words of crate `paper`. Assumes nothing.
 use mathlib.Core.Path.{_≡_, refl, sym, _∙_}
 use mathlib.Core.Bool.{Bool, true, false}
 use mathlib.Core.List.{List, [], _∷_, _++_}
@@ -29,10 +29,11 @@ use Rattle.rules_reads.specs.Macroblock.{MacroblockNumbered, MacroblockRead, Ma
 use Rattle.rules_reads.specs.Time.{TimeRead}
 use Rattle.rules_surveys.specs.Salvage.{Salvaged}
 use Rattle.promises.specs.Contents.{Contents}
+use Rattle.rules_replaces.specs.Replace.{Replaced}
 use Rattle.rules_writes.specs.Write.{Wrote}
 use Rattle.rules_picture.specs.Rows.{rowsAgree, printedRows}
 use Rattle.rules_format.specs.Known.{all, table}
-use Rattle.paper.specs.Paper.{sequences, positions, macroblocks, streamFault, soundChannel, soundFirst, modeSaid}
+use Rattle.paper.specs.Paper.{sequences, positions, macroblocks, streamFault, soundChannel, soundFirst, soundWord, modeSaid, back}
 use Rattle.paper.specs.Bytes.{OwnCount}
 use Rattle.rules_format.specs.InNumbers.{InNumbers}
 use Rattle.kept.specs.EveryCall.{EveryCall}
@@ -40,6 +41,10 @@ use Rattle.promises.specs.Demand2.{IdOut, ViewOut, MacroblockOut, Strict, ReadO
 use Rattle.rules_reads.specs.Strict.{StrictlyRead}
 use Rattle.promises.specs.Demand3.{SampleSalvaged, Listed, Salvages}
 use Rattle.promises.specs.Unrecorded.{Marks, every, ComesBackLost, SameButAudio, SameButAaux}
+use Rattle.promises.specs.Form.{HasForm}
+use Rattle.promises.specs.Refusals.{SomeOutside, modeStored}
+use Rattle.promises.specs.Commentary.{Exchanged, HeardAgain, SalvagedAgain, FrameHolds, Changed}
+use Rattle.kept.specs.ReadsElse.{ReadsElse}
 use Rattle.promises.proofs.Unrecorded.{marks-aaux}
 use Rattle.kept.proofs.Deciding.{ids-decided, views-decided, macroblocks-decided, reads-decided}
 use Rattle.kept.proofs.WritingBack.{writes-back, strict-decided, frame-decided}
@@ -48,12 +53,15 @@ use Rattle.kept.proofs.Salvaging.{salvages, salvage-decided}
 use Rattle.kept.proofs.Worthless.{tone-taken, one-for-two, frame-for-two, all-lost}
 use Rattle.kept.proofs.Alike.{same-salvage, same-check, same-survey, same-macroblock, same-macroblock-at, same-time}
 use Rattle.kept.proofs.Unrecorded.{comes-back-lost, others-same, handed-out, some-marked}
+use Rattle.kept.proofs.Held.{held-one}
+use Rattle.kept.proofs.Commentary.{heard-again, reads-else, salvaged-again, made-again, form-made, taken-when, ours-taken, silenced, left-alone}
 use Rattle.rules_format.proofs.Headlines as format
 use Rattle.rules_picture.proofs.Headlines as picture
 use Rattle.rules_packs.proofs.Headlines as packs
 use Rattle.promises.proofs.Headlines as promised
 use Rattle.rules_surveys.proofs.Headlines as surveys
 use Rattle.rules_reads.proofs.Headlines as reads
+use Rattle.rules_replaces.proofs.Headlines as replaces
 use Rattle.rules_writes.proofs.Headlines as writes
 use Rattle.rules_picture.specs.Slots.{SlotsInNumbers}
 use Rattle.rules_packs.specs.InBytes.{InBytes}
@@ -109,6 +117,7 @@ demand-1 = record {
   macroblock-at = reads.macroblock-at-answers;
   read-time = reads.time-answers;
   salvage = surveys.salvage-answers;
+  replace-audio = replaces.replace-answers;
   write-frame = writes.write-answers;
 }
 
@@ -232,6 +241,66 @@ module _ {k : ℕ} {f g : List ℕ} (same : SameButAudio k f g) where
 
   pub audio-apart-time : {r r′ : TimeAnswer} → TimeRead k f r → TimeRead k g r′ → r ≡ r′
   audio-apart-time = same-time same
+
+-- ---- a new commentary channel: the call was handed the frame f, audio channel c and its new samples, answered 0 and left g
+
+module _ {k : ℕ} {f : List ℕ} {c : ℕ} {samples : List ℤ} {g : List ℕ} (call : Replaced k f c samples 0 g) where
+  -- every byte of it; and whatever has these bytes is our frame
+  pub commentary : Exchanged k f c samples g
+  commentary = replaces.exchanges call
+
+  pub commentary-decides : {g′ : List ℕ} → Exchanged k f c samples g′ → g′ ≡ g
+  commentary-decides m = promised.one-exchange m (replaces.exchanges call)
+
+  -- the channel reads back, everything else as before
+  pub commentary-heard : {list heard : List ℤ} {o : AudioAnswer} → length list ≡ positions k → AudioRead k g c list o heard → HeardAgain samples list o heard
+  commentary-heard = heard-again call
+
+  pub commentary-else : ReadsElse k f c g
+  commentary-else = reads-else call
+
+  pub commentary-salvage : {buffer before after : List ℤ} {list list₁ list₂ : List ℕ} {r r′ : Survey} → length buffer ≡ 8 * positions k
+      → Salvaged k f buffer list r before list₁ → Salvaged k g buffer list r′ after list₂ → (r ≡ r′) × (list₁ ≡ list₂) × SalvagedAgain k c samples before after
+  commentary-salvage = salvaged-again call
+
+  -- "For a frame in our writer's form the result is what the writer would have made from the changed contents.": f is a list of bytes that holds l, and
+  -- its time code is read
+  pub commentary-form : HasForm k f → ((i : ℕ) → getD f i 0 < 256) → {l l′ : Contents} → FrameHolds k f l → Changed l c samples l′
+      → {o : TimeAnswer} → TimeRead k f o → o .number ≡ 0 → {frame w : List ℕ} {r : ℕ} → length frame ≡ length f → Wrote k l′ frame r w → (r ≡ 0) × (w ≡ g)
+  commentary-form = form-made call
+
+  -- and where it was made of l by our writer
+  pub commentary-ours : {l l′ : Contents} {frame₀ : List ℕ} → Wrote k l frame₀ 0 f → Changed l c samples l′ → {frame w : List ℕ} {r : ℕ}
+      → length frame ≡ length frame₀ → Wrote k l′ frame r w → (r ≡ 0) × (w ≡ g)
+  commentary-ours = made-again call
+
+  -- lost as silence
+  pub not-silenced : (t : ℕ) → t < length samples → getD samples t (pos 0) ≡ pos 32768 → soundWord (sequences k) g c t ≡ 0 → ⊥
+  not-silenced = silenced call
+
+-- a frame of which the channel is read, and not marked, is taken, with as many samples as it has
+pub commentary-taken : {k : ℕ} {f : List ℕ} {c : ℕ} {list heard : List ℤ} {o : AudioAnswer} → AudioRead k f c list o heard → o .number ≡ 0
+    → modeStored k f c ≢ 0xF → {samples : List ℤ} {r : ℕ} {g : List ℕ} → length samples ≡ o .count → (SomeOutside samples → ⊥)
+    → Replaced k f c samples r g → r ≡ 0
+commentary-taken = taken-when
+
+-- and so is any that our writer made
+pub commentary-ours-taken : {k : ℕ} {l : Contents} {frame f : List ℕ} → Wrote k l frame 0 f → {c : ℕ} → 0 < c → c < 9 → {samples : List ℤ} {r : ℕ} {g : List ℕ}
+    → length samples ≡ l .count → (SomeOutside samples → ⊥) → Replaced k f c samples r g → r ≡ 0
+commentary-ours-taken = ours-taken
+
+-- a call that leaves the frame as it was
+pub not-left-alone : {k : ℕ} {f : List ℕ} {c : ℕ} {samples samples′ : List ℤ} → Replaced k f c samples 0 f → Replaced k f c samples′ 0 f
+    → (t : ℕ) → t < length samples → back (getD samples t (pos 0)) ≡ back (getD samples′ t (pos 0))
+not-left-alone = left-alone
+
+-- a frame holds one contents, and with a channel exchanged there is one
+pub one-contents : (k : ℕ) → k < 4 → (f : List ℕ) → length f ≡ 48000 * sequences k → ExactlyOne Contents (FrameHolds k f)
+one-contents = held-one
+
+pub one-changed : (l : Contents) (c : ℕ) (samples : List ℤ) → 0 < c → c < 9 → length samples ≡ l .count → length (l .sound) ≡ 8 * l .count
+    → ExactlyOne Contents (Changed l c samples)
+one-changed = promised.one-changed
 
 -- ---- the premises can be met, for each system and count; and what the demands refute
 

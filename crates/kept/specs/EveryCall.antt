@@ -7,9 +7,10 @@ use Rattle.rules_reads.specs.Audio.{AudioRead}
 use Rattle.rules_reads.specs.Macroblock.{MacroblockNumbered, MacroblockRead, MacroblockLies}
 use Rattle.rules_reads.specs.Time.{TimeRead}
 use Rattle.rules_surveys.specs.Salvage.{Salvaged}
+use Rattle.rules_replaces.specs.Replace.{Replaced}
 use Rattle.rules_writes.specs.Write.{Wrote}
 use Rattle.promises.specs.Demand1.{ReadIdAnswers, IdValuesAnswers, SurveyAnswers, SequenceAnswers, ViewAnswers, ViewAtAnswers, CheckAnswers, AudioAnswers}
-use Rattle.promises.specs.Demand1.{MacroblockAnswers, MacroblockAtAnswers, TimeAnswers, SalvageAnswers, WriteAnswers}
+use Rattle.promises.specs.Demand1.{MacroblockAnswers, MacroblockAtAnswers, TimeAnswers, SalvageAnswers, ReplaceAnswers, WriteAnswers}
 
 pub record EveryCall : Type 0 where
   pub read-id : ReadIdAnswers IdRead
@@ -24,4 +25,5 @@ pub record EveryCall : Type 0 where
   pub macroblock-at : MacroblockAtAnswers MacroblockLies
   pub read-time : TimeAnswers TimeRead
   pub salvage : SalvageAnswers Salvaged
+  pub replace-audio : ReplaceAnswers Replaced
   pub write-frame : WriteAnswers Wrote
