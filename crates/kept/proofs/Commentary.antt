@@ -3,7 +3,7 @@ use mathlib.Core.Path.{_≡_, refl, sym, ap, _∙_, subst}
 use mathlib.Core.List.{List}
 use mathlib.Core.Bool.{true}
 use mathlib.Core.Logic.{inl, ⊎-elim, _≢_}
-use Prim.Native.Nat.{ℕ, _+_, _-_, _*_, _≤_, _<_}
+use Prim.Native.Nat.{ℕ, _+_, _*_, _≤_, _<_}
 use native.Mathlib.Omega.{arith}
 use lib.IntN.{ℤ, pos}
 use lib.ListN.{length, getD, replicate, length-replicate}
@@ -14,20 +14,20 @@ use Rattle.paper.specs.declared.SystemNumber.the-variants.{Known}
 use Rattle.paper.specs.declared.AudioAnswer.{AudioAnswer}
 use Rattle.paper.specs.declared.TimeAnswer.{TimeAnswer}
 use Rattle.paper.specs.declared.Survey.{Survey}
-use Rattle.paper.specs.Paper.{sequences, positions, macroblocks, soundIndex, soundWord, soundFirst, sampleBy, wordBy, back, countSaid}
+use Rattle.paper.specs.Paper.{sequences, positions, macroblocks, soundIndex, soundWord, soundFirst, sampleBy, wordBy, back}
 use Rattle.promises.specs.Contents.{Contents}
 use Rattle.promises.specs.Form.{HasForm}
 use Rattle.promises.specs.Demand2.{LaidOut}
-use Rattle.promises.specs.Demand3.{faultFor, SalvageOut}
+use Rattle.promises.specs.Demand3.{faultFor}
 use Rattle.promises.specs.Refusals.{FirstFault, SomeOutside, countStored, modeStored, salvageTable, timeTable, writeTable, replaceTable}
 use Rattle.promises.specs.Unrecorded.{SameButAudio}
-use Rattle.promises.specs.Commentary.{Exchanged, HeardAgain, SalvagedAgain, FrameHolds, Changed}
+use Rattle.promises.specs.Commentary.{HeardAgain, SalvagedAgain, SoundBytes, FrameHolds, Changed}
 use Rattle.promises.proofs.Tables.{row-past, row-on, none-outside, some-outside}
-use Rattle.promises.proofs.Apart.{SameAs, SameWords, audio-gives, sound-gives, count-same, mode-same, some-sequence, fault-same, listed-same, all-named}
+use Rattle.promises.proofs.Apart.{SameAs, audio-gives, sound-gives, count-same, mode-same, some-sequence, fault-same, listed-same, all-named}
 use Rattle.promises.proofs.One.{listed-one}
 use Rattle.promises.proofs.Commentary.{exchanged-apart, exchanged-as, word-new, word-else}
 use Rattle.promises.proofs.LaidAgain.{form-mode, form-count, laid-again}
-use Rattle.promises.proofs.Holding.{held-laid, held-taken, changed-taken}
+use Rattle.promises.proofs.Holding.{laid-bytes, taken-inside, held-laid, held-taken, changed-taken}
 use Rattle.rules_format.specs.Systems.{systemOf}
 use Rattle.rules_format.specs.Samples.{inRange, allInRange}
 use Rattle.rules_format.proofs.Paper.{columns, known-below, known-system, by-system}
@@ -40,6 +40,7 @@ use Rattle.rules_reads.specs.Audio.{audioNumber, AudioRead}
 use Rattle.rules_reads.specs.Time.{TimeRead}
 use Rattle.rules_reads.proofs.Headlines as reads
 use Rattle.rules_reads.proofs.Audio.{audio-1, audio-zero, audio-rows, audio-taken, read-audio-one}
+use Rattle.rules_reads.proofs.Macroblock.{macroblock-number-one, macroblock-one}
 use Rattle.rules_reads.proofs.Answering.{audio-number}
 use Rattle.rules_reads.proofs.GroundsAudio.{mode-first}
 use Rattle.rules_replaces.specs.Replace.{Replaced, Takes}
@@ -49,7 +50,7 @@ use Rattle.rules_replaces.proofs.Headlines as replacing
 use Rattle.rules_writes.specs.Write.{Wrote}
 use Rattle.rules_writes.proofs.Headlines as writes
 use Rattle.kept.specs.ReadsElse.{ReadsElse}
-use Rattle.kept.proofs.Together.{audio-beside, audio-out}
+use Rattle.kept.proofs.Together.{read-together, audio-beside, audio-out}
 use Rattle.kept.proofs.WritingBack.{writes-back, frame-decided}
 use Rattle.kept.proofs.Alike.{first-rows, given, same-audio, same-check, same-survey, same-macroblock, same-macroblock-at, same-time}
 
@@ -208,7 +209,7 @@ module _ {k : ℕ} {f : List ℕ} {c : ℕ} {samples : List ℤ} {g : List ℕ} 
       by-replaced call (λ y known t. made-new call y known t (writes-back wrote .laid-out) sounds changed (subst (λ (size : ℕ). writeTable k l size 0) (sym same) taken) wrote′)
 
   -- of a frame in the writer's form, that holds l
-  pub form-made : HasForm k f → ((i : ℕ) → getD f i 0 < 256) → {l l′ : Contents} → FrameHolds k f l → Changed l c samples l′ → {o : TimeAnswer} → TimeRead k f o
+  pub form-made : HasForm k f → SoundBytes k f → {l l′ : Contents} → FrameHolds k f l → Changed l c samples l′ → {o : TimeAnswer} → TimeRead k f o
       → o .number ≡ 0 → {frame w : List ℕ} {r : ℕ} → length frame ≡ length f → Wrote k l′ frame r w → (r ≡ 0) × (w ≡ g)
   form-made form bytes {l} {l′} holds changed {o} read z {frame} same wrote =
       let timed : timeTable k f 0 = subst (timeTable k f) z (reads.time-answers k f .numbered o read) in
@@ -250,6 +251,24 @@ ours-taken {k} {l} {frame} {f} wrote {c} c1 c8 many inside call =
     let back = writes-back wrote .reads-back c list 0 _ c1 c8 room first (audio-beside (one .meets)) in
     taken-when (one .meets) (ap (λ (a : AudioAnswer). a .number) (back .audio)) (form-mode (writes-back wrote .laid-out .form) below c c8)
     (many ∙ sym (ap (λ (a : AudioAnswer). a .count) (back .audio))) inside call)
+
+-- such a frame has the form, its samples are bytes, and its time code is read
+pub ours-form : {k : ℕ} {l : Contents} {frame f : List ℕ} → Wrote k l frame 0 f → HasForm k f × SoundBytes k f × ((o : TimeAnswer) → TimeRead k f o → o .number ≡ 0)
+ours-form {k} {l} {frame} {f} wrote =
+    let taken : writeTable k l (length frame) 0 = writes.write-answers k l frame .numbered (0, f) wrote in
+    let below : k < 4 = first-rows taken .0 in
+    let laid = writes-back wrote .laid-out in
+    (
+      laid .form,
+      laid-bytes laid (taken-inside l taken),
+      λ o read.
+      known-system k below (λ y known.
+      let list : List ℤ = replicate (positions k) (pos 0) in
+      let room : length list ≡ positions k = length-replicate (positions k) (pos 0) in
+      let first : 0 < macroblocks k = omega (arith, macroblocks-some y, columns k y known .macroblocks-is) in
+      let all = read-together (read-audio-one k f 1 list .meets) (macroblock-number-one k f 0 .meets) (macroblock-one k f 0 .meets) read in
+      ap (λ (a : TimeAnswer). a .number) (writes-back wrote .reads-back 1 list 0 _ (omega arith) (omega arith) room first all .time)),
+    )
 
 -- ---- what is refuted
 

@@ -43,7 +43,7 @@ use Rattle.promises.specs.Demand3.{SampleSalvaged, Listed, Salvages}
 use Rattle.promises.specs.Unrecorded.{Marks, every, ComesBackLost, SameButAudio, SameButAaux}
 use Rattle.promises.specs.Form.{HasForm}
 use Rattle.promises.specs.Refusals.{SomeOutside, modeStored}
-use Rattle.promises.specs.Commentary.{Exchanged, HeardAgain, SalvagedAgain, FrameHolds, Changed}
+use Rattle.promises.specs.Commentary.{Exchanged, HeardAgain, SalvagedAgain, SoundBytes, FrameHolds, Changed}
 use Rattle.kept.specs.ReadsElse.{ReadsElse}
 use Rattle.promises.proofs.Unrecorded.{marks-aaux}
 use Rattle.kept.proofs.Deciding.{ids-decided, views-decided, macroblocks-decided, reads-decided}
@@ -54,7 +54,7 @@ use Rattle.kept.proofs.Worthless.{tone-taken, one-for-two, frame-for-tw
 use Rattle.kept.proofs.Alike.{same-salvage, same-check, same-survey, same-macroblock, same-macroblock-at, same-time}
 use Rattle.kept.proofs.Unrecorded.{comes-back-lost, others-same, handed-out, some-marked}
 use Rattle.kept.proofs.Held.{held-one}
-use Rattle.kept.proofs.Commentary.{heard-again, reads-else, salvaged-again, made-again, form-made, taken-when, ours-taken, silenced, left-alone}
+use Rattle.kept.proofs.Commentary.{heard-again, reads-else, salvaged-again, made-again, form-made, taken-when, ours-taken, ours-form, silenced, left-alone}
 use Rattle.rules_format.proofs.Headlines as format
 use Rattle.rules_picture.proofs.Headlines as picture
 use Rattle.rules_packs.proofs.Headlines as packs
@@ -263,9 +263,9 @@ module _ {k : ℕ} {f : List ℕ} {c : ℕ} {samples : List ℤ} {g : List ℕ} 
       → Salvaged k f buffer list r before list₁ → Salvaged k g buffer list r′ after list₂ → (r ≡ r′) × (list₁ ≡ list₂) × SalvagedAgain k c samples before after
   commentary-salvage = salvaged-again call
 
-  -- "For a frame in our writer's form the result is what the writer would have made from the changed contents.": f is a list of bytes that holds l, and
-  -- its time code is read
-  pub commentary-form : HasForm k f → ((i : ℕ) → getD f i 0 < 256) → {l l′ : Contents} → FrameHolds k f l → Changed l c samples l′
+  -- "For a frame in our writer's form the result is what the writer would have made from the changed contents.": f holds l, and its time
+  -- code is read
+  pub commentary-form : HasForm k f → SoundBytes k f → {l l′ : Contents} → FrameHolds k f l → Changed l c samples l′
       → {o : TimeAnswer} → TimeRead k f o → o .number ≡ 0 → {frame w : List ℕ} {r : ℕ} → length frame ≡ length f → Wrote k l′ frame r w → (r ≡ 0) × (w ≡ g)
   commentary-form = form-made call
 
@@ -288,6 +288,11 @@ commentary-taken = taken-when
 pub commentary-ours-taken : {k : ℕ} {l : Contents} {frame f : List ℕ} → Wrote k l frame 0 f → {c : ℕ} → 0 < c → c < 9 → {samples : List ℤ} {r : ℕ} {g : List ℕ}
     → length samples ≡ l .count → (SomeOutside samples → ⊥) → Replaced k f c samples r g → r ≡ 0
 commentary-ours-taken = ours-taken
+
+-- which has the form, its samples in bytes, and a time code that is read
+pub commentary-ours-form : {k : ℕ} {l : Contents} {frame f : List ℕ} → Wrote k l frame 0 f
+    → HasForm k f × SoundBytes k f × ((o : TimeAnswer) → TimeRead k f o → o .number ≡ 0)
+commentary-ours-form = ours-form
 
 -- a call that leaves the frame as it was
 pub not-left-alone : {k : ℕ} {f : List ℕ} {c : ℕ} {samples samples′ : List ℤ} → Replaced k f c samples 0 f → Replaced k f c samples′ 0 f

@@ -1,7 +1,7 @@
 -- A frame holds one contents, by its bytes. Assumes nothing.
-use mathlib.Core.Path.{_≡_, refl, sym, ap, _∙_, subst}
+use mathlib.Core.Path.{_≡_, refl, sym, ap, _∙_}
 use mathlib.Core.List.{List}
-use Prim.Native.Nat.{ℕ, _+_, _-_, _*_, _/_, _%_, _≤_, _<_}
+use Prim.Native.Nat.{ℕ, _+_, _-_, _*_, _/_, _%_, _<_}
 use native.Mathlib.Nat.{mul-add-div, mul-add-mod-self-left, div-eq-of-lt, mod-eq-of-lt, mul-comm, zero-add}
 use native.Mathlib.Omega.{arith}
 use lib.IntN.{ℤ, pos}
@@ -17,7 +17,6 @@ use Rattle.paper.specs.declared.Carried.the-variants.{Macroblock}
 use Rattle.paper.specs.declared.Carrier.the-variants.{In}
 use Rattle.paper.specs.Paper.{sequences, macroblocks, start, bytesAt, soundWord, sampleBy, countSaid, slotPlace, carried}
 use Rattle.promises.specs.Contents.{Contents}
-use Rattle.promises.specs.Demand2.{given}
 use Rattle.promises.specs.Commentary.{FrameHolds}
 use Rattle.promises.proofs.One.{channels-one}
 use Rattle.rules_format.specs.Systems.{macroblocksOf, systemOf}

@@ -3,11 +3,10 @@ use mathlib.Core.Path.{_≡_, refl, sym, ap, _∙_}
 use mathlib.Core.List.{List}
 use mathlib.Core.Logic.{inl, inr, ⊎-elim, _≢_}
 use Prim.Native.Nat.{ℕ, _+_, _-_, _*_, _/_, _%_, _≤_, _<_}
-use native.Mathlib.Nat.{div-add-mod', mod-lt, div-lt-iff-lt-mul}
 use native.Mathlib.Omega.{arith}
-use lib.IntN.{ℤ, pos}
+use lib.IntN.{ℤ, pos, negsuc}
 use lib.ListN.{length, getD}
-use borrow.Author.Tests.{le-leb, lt-leb, ne-eqb}
+use borrow.Author.Tests.{le-leb, lt-leb, eq-eqb, ne-eqb}
 use Rattle.base.specs.Calls.{ExactlyOne}
 use Rattle.base.specs.Pick.{pick}
 use Rattle.base.specs.Put.{putAt}
@@ -22,7 +21,7 @@ use Rattle.promises.specs.Form.{HasForm}
 use Rattle.promises.specs.Demand2.{given, LaidOut}
 use Rattle.promises.specs.Refusals.{Outside, SomeOutside, WrongFirst, timeTable, writeTable}
 use Rattle.promises.specs.Refusals.WrongFirst.{wrongDigit}
-use Rattle.promises.specs.Commentary.{FrameHolds, Changed}
+use Rattle.promises.specs.Commentary.{SoundBytes, FrameHolds, Changed}
 use Rattle.promises.proofs.Tables.{row-past, row-on}
 use Rattle.promises.proofs.Apart.{some-sequence}
 use Rattle.promises.proofs.LaidOut.{cut-byte}
@@ -45,28 +44,54 @@ sample-inside w h =
     (λ above. rw (lt-leb w 0x8000 above) (λ o. omega arith))
     (λ low. rw (le-leb w 0x8000 low) (λ o. omega arith))
 
+-- and a number in range has a word below 65,536
+word-small : (z : ℤ) → (Outside z → ⊥) → wordBy z < 65536
+unfolding wordBy pick
+word-small (pos v) inside = by-lt 32768 v (λ above. absurd (inside above)) (λ low. omega arith)
+word-small (negsuc v) inside =
+    by-eq v 32767 (λ e. rw (eq-eqb v 32767 e) (omega arith)) (λ d. rw (ne-eqb v 32767 d) (omega arith))
+
 -- ---- FrameHolds: a frame in the form is laid out of what it holds
 
-module _ {k : ℕ} {f : List ℕ} {l : Contents} (form : HasForm k f) (bytes : (i : ℕ) → getD f i 0 < 256) (holds : FrameHolds k f l) where
-  word-small : (c t : ℕ) → soundWord (sequences k) f c t < 65536
-  word-small c t = omega (arith, bytes (soundStart (sequences k) c t), bytes (soundStart (sequences k) c t + 1))
+module _ {k : ℕ} {f : List ℕ} {l : Contents} (form : HasForm k f) (bytes : SoundBytes k f) (holds : FrameHolds k f l) (c t : ℕ) (c1 : 0 < c) (c8 : c < 9) (h : t < l .count) where
+  abbrev at : ℕ
+  at = soundStart (sequences k) c t
 
-  pub held-laid : LaidOut k l f
-  held-laid = record {
-    form = form;
-    count = sym (holds .count);
-    time = sym (holds .time);
-    group = sym (holds .group);
-    high = λ c t c1 c8 h.
-        let same : wordBy (given l c t) ≡ soundWord (sequences k) f c t = ap wordBy (holds .sample c t c1 c8 h) ∙ word-again _ (word-small c t) in
-        omega (arith, same, bytes (soundStart (sequences k) c t + 1));
-    low = λ c t c1 c8 h.
-        let same : wordBy (given l c t) ≡ soundWord (sequences k) f c t = ap wordBy (holds .sample c t c1 c8 h) ∙ word-again _ (word-small c t) in
-        omega (arith, same, bytes (soundStart (sequences k) c t + 1));
-    macroblock = λ h q g m b hh hq hg hm e. sym (holds .macroblock h q g m b hh hq hg hm e);
-  }
+  low-byte : getD f (at + 1) 0 < 256
+  low-byte = bytes .low c t c1 c8 (omega (arith, h, holds .count))
+
+  stored-small : soundWord (sequences k) f c t < 65536
+  stored-small = omega (arith, bytes .high c t c1 c8 (omega (arith, h, holds .count)), low-byte)
+
+  stored-word : wordBy (given l c t) ≡ soundWord (sequences k) f c t
+  stored-word = ap wordBy (holds .sample c t c1 c8 h) ∙ word-again _ stored-small
+
+pub held-laid : {k : ℕ} {f : List ℕ} {l : Contents} → HasForm k f → SoundBytes k f → FrameHolds k f l → LaidOut k l f
+held-laid form bytes holds = record {
+  form = form;
+  count = sym (holds .count);
+  time = sym (holds .time);
+  group = sym (holds .group);
+  high = λ c t c1 c8 h. omega (arith, stored-word form bytes holds c t c1 c8 h, low-byte form bytes holds c t c1 c8 h);
+  low = λ c t c1 c8 h. omega (arith, stored-word form bytes holds c t c1 c8 h, low-byte form bytes holds c t c1 c8 h);
+  macroblock = λ h q g m b hh hq hg hm e. sym (holds .macroblock h q g m b hh hq hg hm e);
+}
+
+-- ---- SoundBytes: what is laid out of numbers in range has them
+
+pub laid-bytes : {k : ℕ} {f : List ℕ} {l : Contents} → LaidOut k l f → ((c t : ℕ) → 0 < c → c < 9 → t < l .count → Outside (given l c t) → ⊥) → SoundBytes k f
+laid-bytes {k} {f} {l} laid inside = record {
+  high = λ c t c1 c8 h.
+      let h′ : t < l .count = omega (arith, h, laid .count) in
+      omega (arith, laid .high c t c1 c8 h′, word-small (given l c t) (inside c t c1 c8 h′));
+  low = λ c t c1 c8 h. let h′ : t < l .count = omega (arith, h, laid .count) in omega (arith, laid .low c t c1 c8 h′);
+}
 
 -- ---- writeTable: what gives 0
+
+-- the number of a position in the lent slice
+slice-below : (l : Contents) (c t : ℕ) → 0 < c → c < 9 → length (l .sound) ≡ 8 * l .count → t < l .count → (c - 1) * l .count + t < length (l .sound)
+slice-below l c t c1 c8 sounds h = let b : c - 1 < 8 = omega arith in omega (arith, h, sounds, end-within (l .count) (c - 1) 8 b)
 
 -- a number of a lent slice is that of a position of an audio channel
 inside-all : (l : Contents) → length (l .sound) ≡ 8 * l .count → ((c t : ℕ) → 0 < c → c < 9 → t < l .count → Outside (given l c t) → ⊥) → SomeOutside (l .sound) → ⊥
@@ -83,6 +108,16 @@ write-zero k l size below whole own sounds pictures time group inside right =
     (row-on (⊎-elim (λ d. d sounds) (⊎-elim (λ d. d pictures) (⊎-elim (λ d. d time) (λ d. d group))))
     (row-on (inside-all l sounds inside) (row-on right refl)))))
 
+-- and what it says of the samples
+pub taken-inside : {k : ℕ} (l : Contents) {size : ℕ} → writeTable k l size 0 → (c t : ℕ) → 0 < c → c < 9 → t < l .count → Outside (given l c t) → ⊥
+taken-inside l taken c t c1 c8 h o =
+    let four =
+    row-past (λ e. omega (arith, e)) (row-past (λ e. omega (arith, e)) (row-past (λ e. omega (arith, e)) (row-past (λ e. omega (arith, e)) taken .1) .1) .1) in
+    by-eq (length (l .sound)) (8 * l .count)
+    (λ sounds.
+    row-past (λ e. omega (arith, e)) (four .1) .0 (record { i = (c - 1) * l .count + t; within = slice-below l c t c1 c8 sounds h; outside = o }))
+    (λ d. absurd (four .0 (inl d)))
+
 -- ---- timeTable: where it gives 0, the time code of the frame keeps the rules
 
 time-right : {k : ℕ} {f : List ℕ} → timeTable k f 0 → WrongFirst k f → ⊥
@@ -93,7 +128,7 @@ time-right {k} {f} t =
     row-past (λ e. omega (arith, e)) (row-past (λ e. omega (arith, e)) (flags .1) .1) .0
 
 -- what a frame holds is taken, where its time code is read
-pub held-taken : {k : ℕ} {f : List ℕ} {l : Contents} → k < 4 → HasForm k f → ((i : ℕ) → getD f i 0 < 256) → FrameHolds k f l → timeTable k f 0
+pub held-taken : {k : ℕ} {f : List ℕ} {l : Contents} → k < 4 → HasForm k f → SoundBytes k f → FrameHolds k f l → timeTable k f 0
     → (size : ℕ) → size ≡ 48000 * sequences k → writeTable k l size 0
 held-taken {k} {f} {l} below form bytes holds read size whole =
     let n : ℕ = sequences k in
@@ -101,7 +136,7 @@ held-taken {k} {f} {l} below form bytes holds read size whole =
     let four : (i : ℕ) → i < 76 → length (bytesAt n f 0 0 1 i 4) ≡ 4 = λ i h. length-part (start n 0 0 1 + i) 4 f (omega (arith, form .size, some, h)) in
     let digit : (j : ℕ) → j < 4 → getD (l .timeCode) j 0 ≡ byteAt n f 0 0 1 (31 + j) = λ j h. rw (holds .time) (sym (cut-byte n f 0 0 1 31 4 j h)) in
     write-zero k l size below whole (rw (holds .count) (form .own)) (holds .sounds) (holds .pictures) (rw (holds .time) (four 31 (omega arith))) (rw (holds .group) (four 39 (omega arith)))
-    (λ c t c1 c8 h. rw (holds .sample c t c1 c8 h) (sample-inside _ (word-small form bytes holds c t)))
+    (λ c t c1 c8 h. rw (holds .sample c t c1 c8 h) (sample-inside _ (stored-small form bytes holds c t c1 c8 h)))
     (⊎-elim
     (λ (bit : (rate k ≡ 1) × (getD (l .timeCode) 0 0 / 64 % 2 ≢ 1)). bit .1 (ap (λ (b : ℕ). b / 64 % 2) (digit 0 (omega arith)) ∙ form .bit-6 (bit .0)))
     (λ (clock : WrongClock k _ _ _ _).
@@ -119,10 +154,6 @@ exchangedIn l c samples = record {
 }
 
 module _ (l : Contents) (c : ℕ) (samples : List ℤ) (c1 : 0 < c) (c8 : c < 9) (many : length samples ≡ l .count) (sounds : length (l .sound) ≡ 8 * l .count) where
-  -- a position's number in the lent slice
-  slice-below : (d t : ℕ) → 0 < d → d < 9 → t < l .count → (d - 1) * l .count + t < length (l .sound)
-  slice-below d t d1 d8 h = let b : d - 1 < 8 = omega arith in omega (arith, h, sounds, end-within (l .count) (d - 1) 8 b)
-
   pub changed-taken : (k : ℕ) (l′ : Contents) (size : ℕ) → Changed l c samples l′ → (SomeOutside samples → ⊥) → writeTable k l size 0 → writeTable k l′ size 0
   changed-taken k l′ size changed inside taken =
       let one = row-past (λ e. omega (arith, e)) taken in
@@ -144,7 +175,7 @@ module _ (l : Contents) (c : ℕ) (samples : List ℤ) (c1 : 0 < c) (c8 : c < 9)
       let h′ : t < l .count = omega (arith, h, changed .count) in
       by-eq d c
       (λ own. inside (record { i = t; within = omega (arith, h′, many); outside = rw (changed .sample t h′) at (rw own at o) }))
-      (λ ne. five .0 (record { i = (d - 1) * l .count + t; within = slice-below d t d1 d8 h′; outside = rw (changed .others d t d1 d8 ne h′) at o }))))
+      (λ ne. five .0 (record { i = (d - 1) * l .count + t; within = slice-below l d t d1 d8 sounds h′; outside = rw (changed .others d t d1 d8 ne h′) at o }))))
       (row-on (rw (changed .time) (six .0)) refl)))))
 
   fits : (c - 1) * l .count + length samples ≤ length (l .sound)

@@ -19,7 +19,6 @@ use Rattle.promises.specs.Unrecorded.{ComesBackLost}
 use Rattle.promises.specs.Demand3.{Listed, faultFor, SalvageOut, Salvages, SampleSalvaged}
 use native.Mathlib.Nat.{div-add-mod', mod-lt, div-lt-iff-lt-mul, not-suc-le-zero}
 use borrow.Author.Tests.{ne-eqb}
-use Rattle.paper.specs.Paper
 use Rattle.paper.specs.declared.Place.{Place}
 use Rattle.paper.specs.declared.IdAnswer.{IdAnswer}
 use Rattle.paper.specs.declared.IdValues.{IdValues}

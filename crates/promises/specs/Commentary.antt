@@ -48,6 +48,11 @@ pub record SalvagedAgain (k c : ℕ) (samples before after : List ℤ) : Type 0 
 
 -- ---- "For a frame in our writer's form the result is what the writer would have made from the changed contents."
 
+-- the samples of a frame are stored in bytes, below 256
+pub record SoundBytes (k : ℕ) (f : List ℕ) : Type 0 where
+  pub high : (c t : ℕ) → 0 < c → c < 9 → t < countSaid (sequences k) f 0 0 → getD f (soundStart (sequences k) c t) 0 < 256
+  pub low : (c t : ℕ) → 0 < c → c < 9 → t < countSaid (sequences k) f 0 0 → getD f (soundStart (sequences k) c t + 1) 0 < 256
+
 -- the contents of a frame, by its bytes
 pub record FrameHolds (k : ℕ) (f : List ℕ) (l : Contents) : Type 0 where
   pub count : l .count ≡ countSaid (sequences k) f 0 0
