@@ -153,17 +153,20 @@ module _ {k : ℕ} {f : List ℕ} {c : ℕ} {samples : List ℤ} {g : List ℕ} 
       let one = listed-one (listed-same apart (surveys.salvages-listed k a z)) (surveys.salvages-listed k a′ z′) (z ∙ sym z′) in
       let out = surveys.salvages-out k a z in
       let out′ = surveys.salvages-out k a′ z′ in
-      let stored : (d u : ℕ) → 0 < d → d < 9 → faultFor (sequences k) f d u ≡ 0 = λ d u d1 d8. sym (same-fault d u d1 d8) ∙ fault-none d u d1 d8 in
-      (one .0, one .1, record {
-        sample = λ u h.
-            out′ .position c u c1 c8 (omega (arith, h, many, few)) .renamed (fault-none c u c1 c8)
-            ∙ ap sampleBy (word-new x y known c1 c8 few u (omega (arith, h, many))) ∙ new-sample u h;
-        others = λ d u d1 d8 hu other.
-            out′ .position d u d1 d8 hu .renamed (fault-none d u d1 d8)
-            ∙ ap sampleBy (word-else x y known c1 c8 few d u d1 d8 hu (λ e. omega (arith, other e, many)))
-            ∙ sym (out .position d u d1 d8 hu .renamed (stored d u d1 d8));
-        size = out′ .size;
-      })
+      let stored : (d u : ℕ) → 0 < d → d < 9 → faultFor (sequences k) f d u ≡ 0 = λ d u d1 d8. sym (same-fault d u d1 d8) ∙ fault-none d u d1 d8 in (
+        one .0,
+        one .1,
+        record {
+          sample = λ u h.
+              out′ .position c u c1 c8 (omega (arith, h, many, few)) .renamed (fault-none c u c1 c8)
+              ∙ ap sampleBy (word-new x y known c1 c8 few u (omega (arith, h, many))) ∙ new-sample u h;
+          others = λ d u d1 d8 hu other.
+              out′ .position d u d1 d8 hu .renamed (fault-none d u d1 d8)
+              ∙ ap sampleBy (word-else x y known c1 c8 few d u d1 d8 hu (λ e. omega (arith, other e, many)))
+              ∙ sym (out .position d u d1 d8 hu .renamed (stored d u d1 d8));
+          size = out′ .size;
+        },
+      )
     where
       same-fault : (d u : ℕ) → 0 < d → d < 9 → faultFor (sequences k) g d u ≡ faultFor (sequences k) f d u
       same-fault d u d1 d8 =
@@ -257,17 +260,16 @@ pub ours-form : {k : ℕ} {l : Contents} {frame f : List ℕ} → Wrote k l fram
 ours-form {k} {l} {frame} {f} wrote =
     let taken : writeTable k l (length frame) 0 = writes.write-answers k l frame .numbered (0, f) wrote in
     let below : k < 4 = first-rows taken .0 in
-    let laid = writes-back wrote .laid-out in
-    (
+    let laid = writes-back wrote .laid-out in (
       laid .form,
       laid-bytes laid (taken-inside l taken),
       λ o read.
-      known-system k below (λ y known.
-      let list : List ℤ = replicate (positions k) (pos 0) in
-      let room : length list ≡ positions k = length-replicate (positions k) (pos 0) in
-      let first : 0 < macroblocks k = omega (arith, macroblocks-some y, columns k y known .macroblocks-is) in
-      let all = read-together (read-audio-one k f 1 list .meets) (macroblock-number-one k f 0 .meets) (macroblock-one k f 0 .meets) read in
-      ap (λ (a : TimeAnswer). a .number) (writes-back wrote .reads-back 1 list 0 _ (omega arith) (omega arith) room first all .time)),
+          known-system k below (λ y known.
+          let list : List ℤ = replicate (positions k) (pos 0) in
+          let room : length list ≡ positions k = length-replicate (positions k) (pos 0) in
+          let first : 0 < macroblocks k = omega (arith, macroblocks-some y, columns k y known .macroblocks-is) in
+          let all = read-together (read-audio-one k f 1 list .meets) (macroblock-number-one k f 0 .meets) (macroblock-one k f 0 .meets) read in
+          ap (λ (a : TimeAnswer). a .number) (writes-back wrote .reads-back 1 list 0 _ (omega arith) (omega arith) room first all .time)),
     )
 
 -- ---- what is refuted

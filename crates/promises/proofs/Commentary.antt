@@ -94,8 +94,7 @@ module _ {k : ℕ} {f : List ℕ} {c : ℕ} {samples : List ℤ} {g : List ℕ} 
       let i = soundIndex n c t in
       let w = 8 + 2 * (t / (9 * (n / 2))) in
       let room = within t (omega (arith, h, few)) in
-      let next : i * 80 + w + 1 ≡ i * 80 + (w + 1) = omega arith in
-      (
+      let next : i * 80 + w + 1 ≡ i * 80 + (w + 1) = omega arith in (
         (λ e. let one = digit-one 80 j i b w hb (omega (arith, room)) e in other t (one .0) (omega (arith, one .1))),
         λ e. let one = digit-one 80 j i b (w + 1) hb room (e ∙ next) in other t (one .0) (omega (arith, one .1)),
       )

@@ -201,10 +201,10 @@ replaceTable k f c samples =
     else 2 if (length f ≢ 48000 * sequences k)
     else 3 if ((c ≡ 0) ⊎ (8 < c))
     else checked k f (sounded k f c (
-      29 if (length samples ≢ countStored k f c)
-      else 31 if SomeOutside samples
-      else 33 if (modeStored k f c ≡ 0xF)
-      else none))
+    29 if (length samples ≢ countStored k f c)
+    else 31 if SomeOutside samples
+    else 33 if (modeStored k f c ≡ 0xF)
+    else none))
 
 -- "macroblock read 23"
 abbrev pub macroblockTable : ℕ → List ℕ → ℕ → Table

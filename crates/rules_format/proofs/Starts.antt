@@ -46,10 +46,9 @@ start-one y c d t u c1 c8 d1 d8 ht hu e =
     sym (rank-sequence (halfOf y) c (rankOf (halfOf y) t) half (rank-below (halfOf y) half t))
     ∙ ap (rankAt (halfOf y)) (one .1) ∙ rank-sequence (halfOf y) d (rankOf (halfOf y) u) half (rank-below (halfOf y) half u) in
     let audio : audioOf (halfOf y) t ≡ audioOf (halfOf y) u = omega (arith, one .2) in
-    let word : wordNumber (halfOf y) t ≡ wordNumber (halfOf y) u = omega (arith, one .3) in
-    (
+    let word : wordNumber (halfOf y) t ≡ wordNumber (halfOf y) u = omega (arith, one .3) in (
       sym (audio-sequence (halfOf y) c (rankOf (halfOf y) t) half (rank-below (halfOf y) half t) c1)
-      ∙ ap₂ (audioAt (halfOf y)) (one .0) (one .1) ∙ audio-sequence (halfOf y) d (rankOf (halfOf y) u) half (rank-below (halfOf y) half u) d1,
+          ∙ ap₂ (audioAt (halfOf y)) (one .0) (one .1) ∙ audio-sequence (halfOf y) d (rankOf (halfOf y) u) half (rank-below (halfOf y) half u) d1,
       sym (sample-back (halfOf y) half t)
-      ∙ (λ i. sampleAt (halfOf y) (rank i) (audio i) (word i)) ∙ sample-back (halfOf y) half u,
+          ∙ (λ i. sampleAt (halfOf y) (rank i) (audio i) (word i)) ∙ sample-back (halfOf y) half u,
     )
