@@ -142,7 +142,7 @@ held-taken {k} {f} {l} below form bytes holds read size whole =
     (λ (clock : WrongClock k _ _ _ _).
     time-right read (wrongDigit (rw (digit 0 (omega arith), digit 1 (omega arith), digit 2 (omega arith), digit 3 (omega arith)) at clock))))
 
--- ---- Changed: what was taken is taken with other samples, and there are such contents
+-- ---- Changed: there are such contents, and no others; and what was taken is taken with other samples
 
 abbrev exchangedIn : Contents → ℕ → List ℤ → Contents
 exchangedIn l c samples = record {
@@ -154,30 +154,6 @@ exchangedIn l c samples = record {
 }
 
 module _ (l : Contents) (c : ℕ) (samples : List ℤ) (c1 : 0 < c) (c8 : c < 9) (many : length samples ≡ l .count) (sounds : length (l .sound) ≡ 8 * l .count) where
-  pub changed-taken : (k : ℕ) (l′ : Contents) (size : ℕ) → Changed l c samples l′ → (SomeOutside samples → ⊥) → writeTable k l size 0 → writeTable k l′ size 0
-  changed-taken k l′ size changed inside taken =
-      let one = row-past (λ e. omega (arith, e)) taken in
-      let two = row-past (λ e. omega (arith, e)) (one .1) in
-      let three = row-past (λ e. omega (arith, e)) (two .1) in
-      let four = row-past (λ e. omega (arith, e)) (three .1) in
-      let five = row-past (λ e. omega (arith, e)) (four .1) in
-      let six = row-past (λ e. omega (arith, e)) (five .1) in
-      let sounds′ : length (l′ .sound) ≡ 8 * l′ .count = changed .sounds ∙ sounds ∙ ap (λ (n : ℕ). 8 * n) (sym (changed .count)) in
-      row-on (one .0)
-      (row-on (two .0)
-      (row-on (rw (changed .count) (three .0))
-      (row-on
-      (⊎-elim (λ d. d sounds′)
-      (⊎-elim (λ d. four .0 (inr (inl (rw (changed .macroblocks) at d))))
-      (⊎-elim (λ d. four .0 (inr (inr (inl (rw (changed .time) at d))))) (λ d. four .0 (inr (inr (inr (rw (changed .group) at d))))))))
-      (row-on
-      (inside-all l′ sounds′ (λ d t d1 d8 h o.
-      let h′ : t < l .count = omega (arith, h, changed .count) in
-      by-eq d c
-      (λ own. inside (record { i = t; within = omega (arith, h′, many); outside = rw (changed .sample t h′) at (rw own at o) }))
-      (λ ne. five .0 (record { i = (d - 1) * l .count + t; within = slice-below l d t d1 d8 sounds h′; outside = rw (changed .others d t d1 d8 ne h′) at o }))))
-      (row-on (rw (changed .time) (six .0)) refl)))))
-
   fits : (c - 1) * l .count + length samples ≤ length (l .sound)
   fits = let b : c - 1 < 8 = omega arith in omega (arith, many, sounds, end-within (l .count) (c - 1) 8 b)
 
@@ -220,3 +196,27 @@ module _ (l : Contents) (c : ℕ) (samples : List ℤ) (c1 : 0 < c) (c8 : c < 9)
 
   pub changed-exactly : ExactlyOne Contents (Changed l c samples)
   changed-exactly = record { outcome = exchangedIn l c samples; meets = some-changed; only = λ o m. changed-one m some-changed }
+
+  pub changed-taken : (k : ℕ) (l′ : Contents) (size : ℕ) → Changed l c samples l′ → (SomeOutside samples → ⊥) → writeTable k l size 0 → writeTable k l′ size 0
+  changed-taken k l′ size changed inside taken =
+      let one = row-past (λ e. omega (arith, e)) taken in
+      let two = row-past (λ e. omega (arith, e)) (one .1) in
+      let three = row-past (λ e. omega (arith, e)) (two .1) in
+      let four = row-past (λ e. omega (arith, e)) (three .1) in
+      let five = row-past (λ e. omega (arith, e)) (four .1) in
+      let six = row-past (λ e. omega (arith, e)) (five .1) in
+      let sounds′ : length (l′ .sound) ≡ 8 * l′ .count = changed .sounds ∙ sounds ∙ ap (λ (n : ℕ). 8 * n) (sym (changed .count)) in
+      row-on (one .0)
+      (row-on (two .0)
+      (row-on (rw (changed .count) (three .0))
+      (row-on
+      (⊎-elim (λ d. d sounds′)
+      (⊎-elim (λ d. four .0 (inr (inl (rw (changed .macroblocks) at d))))
+      (⊎-elim (λ d. four .0 (inr (inr (inl (rw (changed .time) at d))))) (λ d. four .0 (inr (inr (inr (rw (changed .group) at d))))))))
+      (row-on
+      (inside-all l′ sounds′ (λ d t d1 d8 h o.
+      let h′ : t < l .count = omega (arith, h, changed .count) in
+      by-eq d c
+      (λ own. inside (record { i = t; within = omega (arith, h′, many); outside = rw (changed .sample t h′) at (rw own at o) }))
+      (λ ne. five .0 (record { i = (d - 1) * l .count + t; within = slice-below l d t d1 d8 sounds h′; outside = rw (changed .others d t d1 d8 ne h′) at o }))))
+      (row-on (rw (changed .time) (six .0)) refl)))))

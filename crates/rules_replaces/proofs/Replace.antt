@@ -184,6 +184,11 @@ module _ (k : ℕ) (frame : List ℕ) (c : ℕ) (samples : List ℤ) where
           replace-rows z = sym (on ∙ audio-on y frame c (replaceRows y frame c samples) z)
 
     -- 0 is given exactly for what the call takes
+    pub takes-taken : Takes y frame c samples → replaceNumber k frame c samples ≡ 0
+    takes-taken t =
+        sym (replace-rows (eq-eqb _ _ (t .whole)) (t .channel) (t .checks) (t .hears))
+        ∙ sym (replace-0 y frame c samples (eq-eqb _ _ (t .counts)) (t .levels) (t .recorded))
+
     pub taken-takes : replaceNumber k frame c samples ≡ 0 → Takes y frame c samples
     taken-takes z =
         by-bool (eqb (length frame) (48000 * sequencesOf y))
@@ -200,11 +205,6 @@ module _ (k : ℕ) (frame : List ℕ) (c : ℕ) (samples : List ℤ) where
         (λ d. absurd (d (replace-checked whole channel d ∙ z))))
         (λ e. absurd (omega (arith, z, replace-3 whole e))))
         (λ e. absurd (omega (arith, z, replace-2 e)))
-
-    pub takes-taken : Takes y frame c samples → replaceNumber k frame c samples ≡ 0
-    takes-taken t =
-        sym (replace-rows (eq-eqb _ _ (t .whole)) (t .channel) (t .checks) (t .hears))
-        ∙ sym (replace-0 y frame c samples (eq-eqb _ _ (t .counts)) (t .levels) (t .recorded))
 
 -- ---- replace_audio
 
