@@ -6,7 +6,7 @@ use Prim.Native.Nat.{ℕ, _*_}
 use lib.Dec.{eqb}
 use lib.IntN.{ℤ}
 use lib.ListN.{length}
-use borrow.Author.Tests.{not-true, not-false}
+use borrow.Author.Tests.{eq-eqb, ne-eqb, not-true, not-false}
 use Rattle.base.specs.Calls.{firstOf}
 use Rattle.paper.specs.declared.System.{System}
 use Rattle.paper.specs.declared.Pack.{Pack}
@@ -25,15 +25,15 @@ use Rattle.refuse_check.proofs.Ways.{whole-number}
 -- ---- list_number: the first AS has the count and the mode; b and d are the two judgements
 
 module _ (y : System) (frame : List ℕ) (c : ℕ) (samples : List ℤ) (first : Pack) (ef : first ≡ firstAs y frame c) (count : ℕ) (ec : count ≡ countIn first) where
-  same : eqb (length samples) (countFor y frame c) ≡ eqb (length samples) count
-  same = ap (eqb (length samples)) (sym (ec ∙ ap countIn ef))
+  count-is : count ≡ countFor y frame c
+  count-is = ec ∙ ap countIn ef
 
-  pub list-29 : not (eqb (length samples) count) ≡ true → 29 ≡ firstOf (replaceRows y frame c samples)
-  list-29 e = replace-29 y frame c samples (same ∙ not-true _ e)
+  pub list-29 : (length samples ≡ count → ⊥) → 29 ≡ firstOf (replaceRows y frame c samples)
+  list-29 d = replace-29 y frame c samples (ne-eqb _ _ (λ e. d (e ∙ sym count-is)))
 
-  module _ (oc : not (eqb (length samples) count) ≡ false) (b : Bool) (eb : b ≡ allInRange samples) where
+  module _ (oc : length samples ≡ count) (b : Bool) (eb : b ≡ allInRange samples) where
     counted : eqb (length samples) (countFor y frame c) ≡ true
-    counted = same ∙ not-false _ oc
+    counted = eq-eqb _ _ (oc ∙ count-is)
 
     pub list-31 : not b ≡ true → 31 ≡ firstOf (replaceRows y frame c samples)
     list-31 e = replace-31 y frame c samples counted (sym eb ∙ not-true _ e)

@@ -10,8 +10,8 @@ fn list_number(y: System, frame: &[u8], audio: u32, samples: &[i32]) -> u32
     ensures { λ r. ⌜ r ≡ firstOf (replaceRows y (now (frame .entry)) audio (now (samples .entry))) ⌝ }
 {
     let first = judges::first_as(y, frame, audio);
-    let counted = samples.len() == (packs::count_in(first) as usize);
-    if !counted {
+    let count = packs::count_in(first) as usize;
+    if samples.len() != count {
         return 29;
     }
     if !sound::all_in_range(samples) {

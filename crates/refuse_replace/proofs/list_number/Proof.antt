@@ -10,8 +10,8 @@ first-as-requires c κs = search needs
 count-in-requires : tie.Need-count-in-requires
 count-in-requires c κs = search needs
 
-cast-counted : tie.Need-cast-counted
-cast-counted c = search needs
+cast-count : tie.Need-cast-count
+cast-count c = search needs
 
 returns : tie.Need-returns
 returns c = search (list-29, needs)
@@ -40,7 +40,7 @@ list-number-spec =
     (tie.spec
     first-as-requires
     count-in-requires
-    cast-counted
+    cast-count
     returns
     all-in-range-requires
     returns-2
