@@ -1,10 +1,10 @@
 // A new audio channel in a finished frame: a refusal, or the new samples in their places.
 ghost use mathlib.Core.Path.{_≡_};
-ghost use Rattle.base.specs.Put.{turns};
+ghost use Rattle.base.specs.Put.{putAt, turns};
 ghost use Rattle.rules_format.specs.Systems.{halfOf};
 ghost use Rattle.rules_replaces.specs.Replace.{Replaced};
 ghost use Rattle.replacer.specs.Asked.{BlockAsked, PartAsked, RankAsked, FrameAsked};
-ghost use Rattle.replacer.specs.Turns.{blockPut, blockTurn, rankStart, rankTurn};
+ghost use Rattle.replacer.specs.Turns.{blockWords, blockTurn, rankStart, rankTurn};
 use layout::BLOCK;
 use layout::SEQUENCE;
 use paper::BlockNumber;
@@ -15,7 +15,7 @@ use paper::SystemNumber;
 // Audio block a of the sequence of rank r: its words stand behind the ID and a pack.
 fn replace_block(block: &mut [u8], y: System, samples: &[i32], r: u32, a: BlockNumber)
     requires { ⌜ BlockAsked (now block) y (now samples) (a .0) ⌝ }
-    ensures { λ _. ⌜ now (block .exit) ≡ blockPut y (now (samples .entry)) r (a .0) (now (block .entry)) ⌝ }
+    ensures { λ _. ⌜ now (block .exit) ≡ putAt 8 (blockWords y (now (samples .entry)) r (a .0)) (now (block .entry)) ⌝ }
 {
     sample_words::put_samples(&mut block[8..BLOCK], y, samples, r, a);
 }
