@@ -100,8 +100,8 @@ module _ (y : System) (i r m : ℕ) (em : m ≡ halfOf y) where
   pub rank-asked : i < 8 → r < m → RankAsked y i r
   rank-asked below rank = record { below = below; rank = omega (arith, em) }
 
-  module _ (c : ℕ) (samples : List ℤ) (before frame : List ℕ) (asked : FrameAsked before y c samples) (same : length frame ≡ length before) (below : i < 8) (rank : r < m)
-      (at : ℕ) (at-is : at ≡ rankStart y i r) where
+  module _ (at : ℕ) (at-is : at ≡ rankStart y i r) (below : i < 8) (rank : r < m)
+      (c : ℕ) (samples : List ℤ) (before frame : List ℕ) (asked : FrameAsked before y c samples) (same : length frame ≡ length before) where
     pub part-fits : at + 12000 ≤ length frame
     part-fits = omega (arith, at-is, start-is, rank-below (rank-asked below rank), same, asked .whole, half-twice y)
 

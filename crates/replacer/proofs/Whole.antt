@@ -121,7 +121,7 @@ module _ (y : System) (i : ℕ) (samples : List ℤ) (f : List ℕ) (asked : Fra
     block-is x long =
         let le : words ≤ 36 = pick-either (λ (n : ℕ). n ≤ 36) _ (omega arith) (omega arith) in
         put-run 2 (wordBytes y samples r a) (word-wide y samples r a) (rankStart y i r + wordsAt a) words x
-        (omega (arith, le, part-fits y i r (halfOf y) refl i samples f x asked long (asked .below) hr (rankStart y i r) refl))
+        (omega (arith, le, part-fits y i r (halfOf y) refl (rankStart y i r) refl (asked .below) hr i samples f x asked long))
         ∙ turns-same _ (putWord r a) words x (λ w z h.
         ap₂ (λ (k : ℕ) (bytes : List ℕ). putAt k bytes z) (sym (word-at y samples (asked .turns) r a hr ha i w)) (word-bytes y samples (asked .turns) r a hr ha w (within w h)))
 
