@@ -44,8 +44,8 @@ use Rattle.rules_reads.proofs.Macroblock.{macroblock-number-one, macroblock-one
 use Rattle.rules_reads.proofs.Answering.{audio-number}
 use Rattle.rules_reads.proofs.GroundsAudio.{mode-first}
 use Rattle.rules_replaces.specs.Replace.{Replaced, Takes}
-use Rattle.rules_replaces.proofs.Replace.{takes-taken}
-use Rattle.rules_replaces.proofs.Replacing.{by-replaced, takes-above, takes-below, takes-few, stored-count, replaces}
+use Rattle.rules_replaces.proofs.Replace.{takes-taken, takes-above, takes-below, takes-few}
+use Rattle.rules_replaces.proofs.Replacing.{by-replaced, stored-count, replaces}
 use Rattle.rules_replaces.proofs.Headlines as replacing
 use Rattle.rules_writes.specs.Write.{Wrote}
 use Rattle.rules_writes.proofs.Headlines as writes

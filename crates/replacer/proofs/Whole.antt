@@ -1,31 +1,28 @@
 -- The turns of all loops are the replaced frame: each word that is put is that of a sample, and each sample is put. Assumes nothing.
 use mathlib.Core.Path.{_≡_, refl, sym, ap, ap₂, _∙_, subst}
-use mathlib.Core.Bool.{true}
 use mathlib.Core.List.{List}
 use Prim.Native.Nat.{ℕ, _+_, _-_, _*_, _≤_, _<_}
 use native.Mathlib.Nat.{mod-eq-of-lt, mul-le-mul-left}
 use native.Mathlib.Omega.{arith}
-use lib.Dec.{ltb}
 use lib.IntN.{ℤ, pos}
 use lib.ListN.{length, getD}
-use borrow.Author.Tests.{lt-ltb, le-ltb, ltb-true}
+use borrow.Author.Tests.{lt-ltb, le-ltb}
 use Rattle.base.specs.Put.{putAt, turns}
 use Rattle.base.proofs.Cases.{by-lt}
-use Rattle.base.proofs.Picks.{pick-true, pick-false, pick-either, both-held}
+use Rattle.base.proofs.Picks.{pick-true, pick-false, pick-either}
 use Rattle.base.proofs.Puts.{put-run, turns-keep, turns-do, turns-same}
 use Rattle.paper.specs.declared.System.{System}
 use Rattle.paper.specs.declared.SystemNumber.{SystemNumber}
 use Rattle.paper.specs.declared.SystemNumber.the-variants.{Known, NoSystem}
-use Rattle.rules_format.specs.Systems.{halfOf, positionsOf, isCount, systemOf}
+use Rattle.rules_format.specs.Systems.{halfOf, positionsOf, systemOf}
 use Rattle.rules_format.specs.Samples.{wordFor, bytesOf}
 use Rattle.rules_format.specs.Sound.{rankOf, audioOf, wordNumber, rankAt, firstAt, sampleAt}
 use Rattle.rules_replaces.specs.Replace.{wordStart, putSample, replaced, replaceNumber, Replaced, Takes}
 use Rattle.rules_writes.specs.Written.{sampleWord, wordBytes}
-use Rattle.rules_format.proofs.Systems.{half-cases, positions-half, count-below, count-turns}
+use Rattle.rules_format.proofs.Systems.{half-cases, positions-half, count-turns}
 use Rattle.rules_format.proofs.Sound.{sample-back, rank-below, audio-below, word-below, rank-sample, audio-sample, word-sample, first-below}
-use Rattle.rules_reads.proofs.Audio.{audio-mean, count-own}
 use Rattle.rules_surveys.proofs.Halves.{half-start}
-use Rattle.rules_replaces.proofs.Replace.{Long, Done, put-long, put-does, put-stays, put-keeps, replaced-one, replace-1, taken-takes, replace-done}
+use Rattle.rules_replaces.proofs.Replace.{Long, Done, put-long, put-does, put-stays, put-keeps, replaced-one, replace-1, taken-takes, takes-above, takes-below, takes-own, takes-few, replace-done}
 use Rattle.rules_writes.proofs.Written.{word-wide}
 use Rattle.sample_words.specs.Words.{wordsBelow}
 use Rattle.sample_words.proofs.Ways.{sample-within}
@@ -82,7 +79,7 @@ module _ (y : System) (samples : List ℤ) (many : 315 * halfOf y ≤ length sam
 
 -- ---- all loops, whatever their order: f is the frame before
 
-module _ (y : System) (i : ℕ) (samples : List ℤ) (f : List ℕ) (asked : FrameAsked f y i samples) (few : length samples ≤ positionsOf y) where
+module _ (y : System) (i : ℕ) (samples : List ℤ) (f : List ℕ) (asked : FrameAsked f y i samples) (few : length samples < positionsOf y) where
   c1 : 0 < i + 1
   c1 = omega arith
 
@@ -90,16 +87,19 @@ module _ (y : System) (i : ℕ) (samples : List ℤ) (f : List ℕ) (asked : Fra
   c8 = omega (arith, asked .below)
 
   abbrev Whole : List ℕ → Type 0
-  Whole = Long y (i + 1) c1 c8 samples f (asked .whole) few
+  Whole = Long y (i + 1) c1 c8 samples f (asked .whole)
 
   abbrev InPlace : ℕ → List ℕ → Type 0
-  InPlace = Done y (i + 1) c1 c8 samples f (asked .whole) few
+  InPlace = Done y (i + 1) c1 c8 samples f (asked .whole)
 
   abbrev put : ℕ → List ℕ → List ℕ
   put = putSample y (i + 1) samples
 
+  position : (t : ℕ) → t < length samples → t < positionsOf y
+  position t ht = omega (arith, ht, few)
+
   put-whole : (t : ℕ) → t < length samples → (x : List ℕ) → Whole x → Whole (put t x)
-  put-whole = put-long y (i + 1) c1 c8 samples f (asked .whole) few
+  put-whole t ht = put-long y (i + 1) c1 c8 samples f (asked .whole) t (position t ht)
 
   -- block a of rank r at once, and sample by sample
 
@@ -156,7 +156,7 @@ module _ (y : System) (i : ℕ) (samples : List ℤ) (f : List ℕ) (asked : Fra
   module _ (t : ℕ) (ht : t < length samples) where
     in-place-kept : Kept (InPlace t)
     unfolding Kept
-    in-place-kept u hu x long = put-keeps y (i + 1) c1 c8 samples f (asked .whole) few u hu x long t ht
+    in-place-kept u hu x long = put-keeps y (i + 1) c1 c8 samples f (asked .whole) u (position u hu) x long t (position t ht)
 
     module _ (r a w : ℕ) (hr : r < halfOf y) (ha : a < 9) (hw : w < 36) (is : sampleAt (halfOf y) r a w ≡ t) where
       block-does : (x : List ℕ) → Whole x → InPlace t (putBlock r a x)
@@ -165,7 +165,7 @@ module _ (y : System) (i : ℕ) (samples : List ℤ) (f : List ℕ) (asked : Fra
           subst (InPlace t) (sym (block-is r a hr ha x long))
           (turns-do (putWord r a) Whole (InPlace t) (words r a hr ha) w x (word-there y samples (asked .turns) r a hr ha w hw (omega (arith, is)))
           (λ v z h. put-whole _ (within r a hr ha v h) z) long
-          (λ z l. subst (λ (k : ℕ). InPlace t (put k z)) (sym is) (put-does y (i + 1) c1 c8 samples f (asked .whole) few t ht z l))
+          (λ z l. subst (λ (k : ℕ). InPlace t (put k z)) (sym is) (put-does y (i + 1) c1 c8 samples f (asked .whole) t (position t ht) z l))
           (λ v z h. in-place-kept _ (within r a hr ha v h) z))
 
       rank-does : (x : List ℕ) → Whole x → InPlace t (rankTurn y i samples r x)
@@ -188,7 +188,7 @@ module _ (y : System) (i : ℕ) (samples : List ℤ) (f : List ℕ) (asked : Fra
       (λ t ht.
       all-do t ht (rankOf s t) (audioOf s t) (wordNumber s t) (rank-below s half t) (audio-below s half t) (word-below s half t (omega (arith, few, positions-half y))) (sample-back s half t))
       (λ k apart.
-      all-keep (λ (x : List ℕ). getD x k 0 ≡ getD f k 0) (λ u hu x long same. put-stays y (i + 1) c1 c8 samples f (asked .whole) few u hu x long k (apart u hu) ∙ same) refl .1)
+      all-keep (λ (x : List ℕ). getD x k 0 ≡ getD f k 0) (λ u hu x long same. put-stays y (i + 1) c1 c8 samples f (asked .whole) u (position u hu) x long k (apart u hu) ∙ same) refl .1)
 
 -- ---- replace_audio: r is what `replace_number` answers, s what `system_of` does
 
@@ -203,20 +203,18 @@ module _ (k : ℕ) (frame : List ℕ) (c : ℕ) (samples : List ℤ) (r : ℕ) (
     takes : Takes y frame c samples
     takes = taken-takes k frame c samples y known (sym er ∙ z)
 
-    own-count : isCount y (length samples) ≡ true
-    own-count = subst (λ (n : ℕ). isCount y n ≡ true) (sym (takes .counts)) (count-own y frame c (audio-mean y frame c (takes .hears) .1))
-
-    channel : (0 < c) × (c < 9)
-    channel = let b = both-held (ltb 0 c) (ltb c 9) (takes .channel) in (ltb-true 0 c (b .0), ltb-true c 9 (b .1))
-
     pub channel-some : 1 ≤ c
-    channel-some = channel .0
+    channel-some = takes-above takes
 
     pub frame-asked : FrameAsked frame y (c - 1) samples
-    frame-asked = record { whole = takes .whole; below = omega (arith, channel .0, channel .1); turns = omega (arith, count-turns y (length samples) own-count) }
+    frame-asked = record {
+      whole = takes .whole;
+      below = omega (arith, takes-above takes, takes-below takes);
+      turns = omega (arith, count-turns y (length samples) (takes-own takes));
+    }
 
     pub frame-left : (frame′ : List ℕ) → frame′ ≡ turns (rankTurn y (c - 1) samples) (halfOf y) frame → Replaced k frame c samples 0 frame′
     frame-left frame′ ef =
-        let c-is : c - 1 + 1 ≡ c = omega (arith, channel .0) in
+        let c-is : c - 1 + 1 ≡ c = omega (arith, takes-above takes) in
         replace-done k y frame frame′ c samples r known er z
-        (ef ∙ loops-replace y (c - 1) samples frame frame-asked (omega (arith, count-below y (length samples) own-count)) ∙ ap (λ (n : ℕ). replaced y frame n samples) c-is)
+        (ef ∙ loops-replace y (c - 1) samples frame frame-asked (takes-few takes) ∙ ap (λ (n : ℕ). replaced y frame n samples) c-is)

@@ -5,30 +5,31 @@ use mathlib.Core.List.{List, _++_}
 use mathlib.Core.Logic.{_≢_}
 use Prim.Native.Nat.{ℕ, _+_, _*_, _/_, _%_, _≤_, _<_}
 use native.Mathlib.Omega.{arith}
-use lib.Dec.{eqb}
+use lib.Dec.{eqb, ltb}
 use lib.IntN.{ℤ, pos}
 use lib.ListN.{length, getD}
 use lib.Seq.{ext-getD}
-use borrow.Author.Tests.{eq-eqb, ne-eqb, eqb-true, eqb-false, not-false}
+use borrow.Author.Tests.{eq-eqb, ne-eqb, eqb-true, eqb-false, ltb-true, not-false}
 use Rattle.base.specs.Calls.{firstOf, ExactlyOne}
 use Rattle.base.specs.Pick.{pick}
 use Rattle.base.specs.Put.{putAt}
 use Rattle.base.proofs.Below.{by-below}
 use Rattle.base.proofs.Cases.{by-bool, by-eq, by-lt}
-use Rattle.base.proofs.Picks.{pick-true, pick-false, first-zero, first-stops}
+use Rattle.base.proofs.Picks.{pick-true, pick-false, both-held, first-zero, first-stops}
 use Rattle.base.proofs.Puts.{put-length, put-before, put-here, put-after, turns-keep, turns-do}
 use Rattle.paper.specs.declared.System.{System}
 use Rattle.paper.specs.declared.SystemNumber.the-variants.{Known, NoSystem}
 use Rattle.paper.specs.Paper.{soundStart}
-use Rattle.rules_format.specs.Systems.{sequencesOf, positionsOf, systemOf}
+use Rattle.rules_format.specs.Systems.{sequencesOf, positionsOf, isCount, systemOf}
 use Rattle.rules_format.specs.Samples.{allInRange, wordFor, bytesOf}
 use Rattle.rules_reads.specs.Check.{checkRows}
 use Rattle.rules_reads.specs.Audio.{countFor, isMarked, isAudio, audioRows}
 use Rattle.rules_replaces.specs.Replace.{wordStart, putSample, replaced, replaceRows, replaceNumber, replaceLeft, Replaced, Takes}
+use Rattle.rules_format.proofs.Systems.{count-below}
 use Rattle.rules_format.proofs.Blocks.{holds-within}
 use Rattle.rules_format.proofs.Starts.{start-is, word-holds, start-one}
 use Rattle.rules_reads.proofs.Check.{rows-on}
-use Rattle.rules_reads.proofs.Audio.{audio-on}
+use Rattle.rules_reads.proofs.Audio.{audio-on, audio-mean, count-own}
 
 -- ---- wordStart: document 01's own formula
 
@@ -37,8 +38,7 @@ word-start y c t = sym (start-is y c t)
 
 -- ---- putSample, in any order: f is the frame before
 
-module _ (y : System) (c : ℕ) (c1 : 0 < c) (c8 : c < 9) (samples : List ℤ) (f : List ℕ) (whole : length f ≡ 48000 * sequencesOf y)
-    (few : length samples ≤ positionsOf y) where
+module _ (y : System) (c : ℕ) (c1 : 0 < c) (c8 : c < 9) (samples : List ℤ) (f : List ℕ) (whole : length f ≡ 48000 * sequencesOf y) where
   abbrev pub Long : List ℕ → Type 0
   Long x = length x ≡ length f
 
@@ -50,9 +50,9 @@ module _ (y : System) (c : ℕ) (c1 : 0 < c) (c8 : c < 9) (samples : List ℤ) (
   abbrev pub Apart : ℕ → Type 0
   Apart i = (t : ℕ) → t < length samples → (i ≢ wordStart y c t) × (i ≢ wordStart y c t + 1)
 
-  module _ (u : ℕ) (hu : u < length samples) (x : List ℕ) (long : length x ≡ length f) where
+  module _ (u : ℕ) (hu : u < positionsOf y) (x : List ℕ) (long : length x ≡ length f) where
     fits : wordStart y c u + 2 ≤ length x
-    fits = omega (arith, whole, long, word-start y c u, holds-within (word-holds y c u 1 c8 (omega (arith, few, hu)) (omega arith)))
+    fits = omega (arith, whole, long, word-start y c u, holds-within (word-holds y c u 1 c8 hu (omega arith)))
 
     pub put-long : length (putSample y c samples u x) ≡ length f
     unfolding putSample
@@ -76,46 +76,50 @@ module _ (y : System) (c : ℕ) (c1 : 0 < c) (c8 : c < 9) (samples : List ℤ) (
         (λ l. put-before (wordStart y c u) bytes x fits 0 i l)
         (λ g. put-after (wordStart y c u) bytes x fits 0 i (omega (arith, d .0, d .1)))
 
-    pub put-keeps : (t : ℕ) → t < length samples → Done t x → Done t (putSample y c samples u x)
+    pub put-keeps : (t : ℕ) → t < positionsOf y → Done t x → Done t (putSample y c samples u x)
     put-keeps t ht done =
         by-eq t u
         (λ e. subst (λ (i : ℕ). Done i (putSample y c samples u x)) (sym e) put-does)
         (λ d.
         let n : wordStart y c t ≢ wordStart y c u = λ e.
-        d (start-one y c c t u c1 c8 c1 c8 (omega (arith, few, ht)) (omega (arith, few, hu)) (sym (word-start y c t) ∙ e ∙ word-start y c u) .1) in
+        d (start-one y c c t u c1 c8 c1 c8 ht hu (sym (word-start y c t) ∙ e ∙ word-start y c u) .1) in
         (put-stays (wordStart y c t) (n, λ e. omega (arith, e)) ∙ done .0, put-stays (wordStart y c t + 1) ((λ e. omega (arith, e)), λ e. n (omega (arith, e))) ∙ done .1))
 
   -- ---- replaced: sample after sample
 
-  pub replaced-long : Long (replaced y f c samples)
-  unfolding replaced
-  replaced-long = turns-keep (putSample y c samples) Long _ f (λ i x h long. put-long i h x long) refl
+  module _ (few : length samples < positionsOf y) where
+    pub replaced-long : Long (replaced y f c samples)
+    unfolding replaced
+    replaced-long = turns-keep (putSample y c samples) Long _ f (λ i x h long. put-long i (omega (arith, h, few)) x long) refl
 
-  pub replaced-does : (t : ℕ) → t < length samples → Done t (replaced y f c samples)
-  unfolding replaced
-  replaced-does t ht =
-      turns-do (putSample y c samples) Long (Done t) (length samples) t f ht (λ i x h long. put-long i h x long) refl (λ x long. put-does t ht x long)
-      (λ i x h long. put-keeps i h x long t ht)
+    pub replaced-does : (t : ℕ) → t < length samples → Done t (replaced y f c samples)
+    unfolding replaced
+    replaced-does t ht =
+        turns-do (putSample y c samples) Long (Done t) _ t f ht (λ i x h long. put-long i (omega (arith, h, few)) x long) refl
+        (λ x long. put-does t (omega (arith, ht, few)) x long) (λ i x h long. put-keeps i (omega (arith, h, few)) x long t (omega (arith, ht, few)))
 
-  pub replaced-stays : (i : ℕ) → Apart i → getD (replaced y f c samples) i 0 ≡ getD f i 0
-  unfolding replaced
-  replaced-stays i n =
-      turns-keep (putSample y c samples) (λ (x : List ℕ). Long x × (getD x i 0 ≡ getD f i 0)) (length samples) f
-      (λ u x h p. (put-long u h x (p .0), put-stays u h x (p .0) i (n u h) ∙ p .1)) (refl, refl) .1
+    replaced-keeps : (i : ℕ) → Apart i → Long (replaced y f c samples) × (getD (replaced y f c samples) i 0 ≡ getD f i 0)
+    unfolding replaced
+    replaced-keeps i n =
+        turns-keep (putSample y c samples) (λ (x : List ℕ). Long x × (getD x i 0 ≡ getD f i 0)) _ f
+        (λ u x h p. (put-long u (omega (arith, h, few)) x (p .0), put-stays u (omega (arith, h, few)) x (p .0) i (n u (omega (arith, h))) ∙ p .1)) (refl, refl)
 
-  -- in whatever order they are put in, the frame is one
-  pub replaced-one : (x : List ℕ) → Long x → ((t : ℕ) → t < length samples → Done t x) → ((i : ℕ) → Apart i → getD x i 0 ≡ getD f i 0)
-      → x ≡ replaced y f c samples
-  replaced-one x long done else =
-      ext-getD 0 x (replaced y f c samples) (long ∙ sym replaced-long) (λ i b.
-      by-below (λ (t : ℕ). eqb i (wordStart y c t)) (length samples)
-      (λ t h e. rw (eqb-true i (wordStart y c t) e) (done t h .0 ∙ sym (replaced-does t h .0)))
-      (λ high.
-      by-below (λ (t : ℕ). eqb i (wordStart y c t + 1)) (length samples)
-      (λ t h e. rw (eqb-true i (wordStart y c t + 1) e) (done t h .1 ∙ sym (replaced-does t h .1)))
-      (λ low.
-      let apart : Apart i = λ t h. (eqb-false i (wordStart y c t) (high t h), eqb-false i (wordStart y c t + 1) (low t h)) in
-      else i apart ∙ sym (replaced-stays i apart))))
+    pub replaced-stays : (i : ℕ) → Apart i → getD (replaced y f c samples) i 0 ≡ getD f i 0
+    replaced-stays i n = replaced-keeps i n .1
+
+    -- in whatever order they are put in, the frame is one
+    pub replaced-one : (x : List ℕ) → Long x → ((t : ℕ) → t < length samples → Done t x) → ((i : ℕ) → Apart i → getD x i 0 ≡ getD f i 0)
+        → x ≡ replaced y f c samples
+    replaced-one x long done else =
+        ext-getD 0 x (replaced y f c samples) (long ∙ sym replaced-long) (λ i b.
+        by-below (λ (t : ℕ). eqb i (wordStart y c t)) (length samples)
+        (λ t h e. rw (eqb-true i (wordStart y c t) e) (done t h .0 ∙ sym (replaced-does t h .0)))
+        (λ high.
+        by-below (λ (t : ℕ). eqb i (wordStart y c t + 1)) (length samples)
+        (λ t h e. rw (eqb-true i (wordStart y c t + 1) e) (done t h .1 ∙ sym (replaced-does t h .1)))
+        (λ low.
+        let apart : Apart i = λ t h. (eqb-false i (wordStart y c t) (high t h), eqb-false i (wordStart y c t + 1) (low t h)) in
+        else i apart ∙ sym (replaced-stays i apart))))
 
 -- ---- replaceRows: each number exactly when its row is the first that holds
 
@@ -205,6 +209,22 @@ module _ (k : ℕ) (frame : List ℕ) (c : ℕ) (samples : List ℤ) where
         (λ d. absurd (d (replace-checked whole channel d ∙ z))))
         (λ e. absurd (omega (arith, z, replace-3 whole e))))
         (λ e. absurd (omega (arith, z, replace-2 e)))
+
+-- ---- Takes
+
+module _ {y : System} {f : List ℕ} {c : ℕ} {samples : List ℤ} (t : Takes y f c samples) where
+  pub takes-above : 0 < c
+  takes-above = ltb-true 0 c (both-held (ltb 0 c) (ltb c 9) (t .channel) .0)
+
+  pub takes-below : c < 9
+  takes-below = ltb-true c 9 (both-held (ltb 0 c) (ltb c 9) (t .channel) .1)
+
+  -- as many samples as the system has of its own, fewer than its positions
+  pub takes-own : isCount y (length samples) ≡ true
+  takes-own = rw (t .counts) (count-own y f c (audio-mean y f c (t .hears) .1))
+
+  pub takes-few : length samples < positionsOf y
+  takes-few = count-below y (length samples) takes-own
 
 -- ---- replace_audio
 

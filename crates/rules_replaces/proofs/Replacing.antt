@@ -1,40 +1,22 @@
 -- The workshop of "A new commentary channel in a finished frame", of this call: the bytes that it exchanges. Assumes nothing.
 use mathlib.Core.Path.{_≡_, sym, ap, _∙_, subst}
 use mathlib.Core.List.{List}
-use Prim.Native.Nat.{ℕ, _+_, _/_, _%_, _≤_, _<_}
+use Prim.Native.Nat.{ℕ, _+_, _/_, _%_, _<_}
 use native.Mathlib.Omega.{arith}
-use lib.Dec.{ltb}
 use lib.IntN.{ℤ, pos}
 use lib.ListN.{length, getD}
-use borrow.Author.Tests.{ltb-true}
-use Rattle.base.proofs.Picks.{both-held}
 use Rattle.paper.specs.declared.System.{System}
 use Rattle.paper.specs.declared.SystemNumber.the-variants.{Known}
 use Rattle.paper.specs.Paper.{sequences, soundStart, wordBy}
 use Rattle.promises.specs.Refusals.{countStored}
 use Rattle.promises.specs.Commentary.{Exchanged}
-use Rattle.rules_format.specs.Systems.{positionsOf, systemOf}
+use Rattle.rules_format.specs.Systems.{systemOf}
 use Rattle.rules_format.specs.Samples.{wordFor}
 use Rattle.rules_replaces.specs.Replace.{wordStart, replaced, Replaced, Takes}
 use Rattle.rules_format.proofs.Paper.{columns, by-system}
-use Rattle.rules_format.proofs.Systems.{count-below}
 use Rattle.rules_format.proofs.Samples.{word-is, all-in}
-use Rattle.rules_reads.proofs.Audio.{audio-mean, count-own}
 use Rattle.rules_reads.proofs.GroundsAudio.{count-first}
-use Rattle.rules_replaces.proofs.Replace.{word-start, replace-1, taken-takes, replace-taken, replaced-long, replaced-does, replaced-stays}
-
--- ---- Takes
-
-module _ {y : System} {f : List ℕ} {c : ℕ} {samples : List ℤ} (t : Takes y f c samples) where
-  pub takes-above : 0 < c
-  takes-above = ltb-true 0 c (both-held (ltb 0 c) (ltb c 9) (t .channel) .0)
-
-  pub takes-below : c < 9
-  takes-below = ltb-true c 9 (both-held (ltb 0 c) (ltb c 9) (t .channel) .1)
-
-  -- as many samples as the system has of its own, below its positions
-  pub takes-few : length samples < positionsOf y
-  takes-few = omega (arith, t .counts, count-below y _ (count-own y f c (audio-mean y f c (t .hears) .1)))
+use Rattle.rules_replaces.proofs.Replace.{word-start, takes-above, takes-below, takes-few, replace-1, taken-takes, replace-taken, replaced-long, replaced-does, replaced-stays}
 
 -- ---- replace_audio, where it answers 0
 
@@ -58,7 +40,7 @@ module _ (k : ℕ) (y : System) (known : systemOf k ≡ Known y) (f : List ℕ) 
   replaced-exchanged =
       let c1 = takes-above t in
       let c8 = takes-below t in
-      let few : length samples ≤ positionsOf y = omega (arith, takes-few t) in
+      let few = takes-few t in
       let below : (u : ℕ) → u < countStored k f c → u < length samples = λ u h. omega (arith, h, stored-count) in
       record {
         count = stored-count;
