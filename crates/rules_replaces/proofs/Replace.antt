@@ -92,12 +92,6 @@ module _ (y : System) (c : ℕ) (c1 : 0 < c) (c8 : c < 9) (samples : List ℤ) (
     unfolding replaced
     replaced-long = turns-keep (putSample y c samples) Long _ f (λ i x h long. put-long i (omega (arith, h, few)) x long) refl
 
-    pub replaced-does : (t : ℕ) → t < length samples → Done t (replaced y f c samples)
-    unfolding replaced
-    replaced-does t ht =
-        turns-do (putSample y c samples) Long (Done t) _ t f ht (λ i x h long. put-long i (omega (arith, h, few)) x long) refl
-        (λ x long. put-does t (omega (arith, ht, few)) x long) (λ i x h long. put-keeps i (omega (arith, h, few)) x long t (omega (arith, ht, few)))
-
     replaced-keeps : (i : ℕ) → Apart i → Long (replaced y f c samples) × (getD (replaced y f c samples) i 0 ≡ getD f i 0)
     unfolding replaced
     replaced-keeps i n =
@@ -106,6 +100,12 @@ module _ (y : System) (c : ℕ) (c1 : 0 < c) (c8 : c < 9) (samples : List ℤ) (
 
     pub replaced-stays : (i : ℕ) → Apart i → getD (replaced y f c samples) i 0 ≡ getD f i 0
     replaced-stays i n = replaced-keeps i n .1
+
+    pub replaced-does : (t : ℕ) → t < length samples → Done t (replaced y f c samples)
+    unfolding replaced
+    replaced-does t ht =
+        turns-do (putSample y c samples) Long (Done t) _ t f ht (λ i x h long. put-long i (omega (arith, h, few)) x long) refl
+        (λ x long. put-does t (omega (arith, ht, few)) x long) (λ i x h long. put-keeps i (omega (arith, h, few)) x long t (omega (arith, ht, few)))
 
     -- in whatever order they are put in, the frame is one
     pub replaced-one : (x : List ℕ) → Long x → ((t : ℕ) → t < length samples → Done t x) → ((i : ℕ) → Apart i → getD x i 0 ≡ getD f i 0)
