@@ -1,6 +1,7 @@
-/* dv100: reads, writes, surveys and salvages DIF frames of the 100 Mbit/s DV family (Recommendation ITU-R BT.1620-1).
+/* dv100: reads, writes, surveys and salvages DIF frames of the 100 Mbit/s DV family (Recommendation ITU-R BT.1620-1), and replaces
+ * an audio channel in them.
  *
- * Every call takes every input: it does its job and answers number 0, or it refuses with a number from 1 to 32, answers
+ * Every call takes every input: it does its job and answers number 0, or it refuses with a number from 1 to 33, answers
  * zeros beside it and changes no buffer. No call keeps a pointer, takes memory, or knows anything of another call, so that any
  * thread may call at any time.
  *
@@ -27,8 +28,10 @@
  *   25   the audio channel's source packs differ in their count or their audio mode
  *   26   the first time code or binary group has a wrong header, or the time code a wrong digit
  *   27   another time code or binary group of the frame differs from the first
+ *   29   the new samples of an audio channel are not as many as its source packs say
  *   31   a sample to be written is outside -32,768 to 32,768
  *   32   a time code to be written has a wrong digit, or at 50 Hz a 0 in bit 6 of its first byte
+ *   33   the audio channel to be replaced is unrecorded: its source packs all say audio mode 1111
  *
  * Digits of a time code: units 0 to 9; frames to 29 (24 at 50 Hz), seconds and minutes to 59, hours to 23.
  *
@@ -119,6 +122,14 @@ struct dv100_time dv100_read_time(uint32_t system, const uint8_t *frame, size_t 
  * Refusals: 1, 2, 4 (not eight times the positions). */
 struct dv100_survey dv100_salvage(uint32_t system, const uint8_t *frame, size_t frame_length, int32_t *samples,
                                   size_t samples_length, uint32_t *list, size_t list_length);
+
+/* Replaces the samples of an audio channel, 1 to 8, with new ones: as many as the count that dv100_read_audio answers, coded as
+ * dv100_write codes them, so that a level of -32,768 comes back as -32,767. No other byte of the frame changes: packs, the other
+ * audio channels and the positions from the count on stay as they were. A frame that dv100_write made becomes the one that it
+ * makes of the changed sound. The frame check is part of the call.
+ * Answers 0, or the refusal: 1, 2, 3, the frame check's, 23, 24, 25, 29, 31, 33. */
+uint32_t dv100_replace_audio(uint32_t system, uint8_t *frame, size_t frame_length, uint32_t audio_channel,
+                             const int32_t *samples, size_t samples_length);
 
 /* Fills a frame: sound of count samples for each of eight audio channels, channel after channel; macroblocks of 77 bytes in
  * the order of their numbers; time code and binary group, 4 bytes each. A level of -32,768 comes back as -32,767; at 50 Hz
