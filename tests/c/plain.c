@@ -1,4 +1,4 @@
-/* The ten calls of dv100.h in plain C. Names and numbers are the paper's; a block's bytes count from its start. */
+/* The eleven calls of dv100.h in plain C. Names and numbers are the paper's; a block's bytes count from its start. */
 #include "plain.h"
 
 #include <stdbool.h>
@@ -365,6 +365,21 @@ static struct source judge_audio(const struct system *own, const uint8_t *bytes,
     return differs ? (struct source){25, 0, false} : (struct source){0, first, unrecorded == 0};
 }
 
+/* The first byte of an audio channel's sequences: audio channels in their order are the halves of the DIF channels. */
+static size_t channel_start(const struct system *own, uint32_t audio_channel)
+{
+    return (size_t)(audio_channel - 1) * own->half * SEQUENCE;
+}
+
+/* What is asked of a whole frame and an audio channel in it: the frame check, TF1, AS. */
+static struct source judge_channel(const struct system *own, const uint8_t *frame, uint32_t audio_channel)
+{
+    uint32_t number = judge_for(own, frame, TF1), mode = (audio_channel - 1) & 1;
+    if (number)
+        return (struct source){number, 0, false};
+    return judge_audio(own, frame + channel_start(own, audio_channel), mode * own->half, mode);
+}
+
 struct dv100_audio plain_read_audio(uint32_t system, const uint8_t *frame, size_t frame_length, uint32_t audio_channel,
                                     int32_t *samples, size_t samples_length)
 {
@@ -377,14 +392,10 @@ struct dv100_audio plain_read_audio(uint32_t system, const uint8_t *frame, size_
         return (struct dv100_audio){3, 0};
     if (samples_length != own->positions)
         return (struct dv100_audio){4, 0};
-    uint32_t number = judge_for(own, frame, TF1);
-    if (number)
-        return (struct dv100_audio){number, 0};
-    uint32_t mode = (audio_channel - 1) & 1;
-    const uint8_t *bytes = frame + (size_t)(audio_channel - 1) * own->half * SEQUENCE;
-    struct source source = judge_audio(own, bytes, mode * own->half, mode);
+    struct source source = judge_channel(own, frame, audio_channel);
     if (source.number)
         return (struct dv100_audio){source.number, 0};
+    const uint8_t *bytes = frame + channel_start(own, audio_channel);
     if (!source.recorded)
         for (uint32_t sample = 0; sample < source.count; sample++)
             samples[sample] = DV100_LOST;
@@ -606,14 +617,19 @@ static void store_word(uint8_t *word, int32_t sample)
     word[1] = (uint8_t)stored;
 }
 
-/* Sample `first` and every step-th after it; the last word alone may be at a position from the count on. */
-static void write_words(uint8_t *block, const int32_t *sound, uint32_t count, size_t first, size_t step)
+/* Sample `first` and every step-th after it, but for the block's last word: that one alone may be at a position from the count on. */
+static void store_words(uint8_t *block, const int32_t *sound, size_t first, size_t step)
 {
     uint8_t *word = block + SOUND;
-    size_t last = first + (WORDS - 1) * step;
-    for (size_t sample = first; sample < last; sample += step, word += 2)
+    for (size_t sample = first; sample < first + (WORDS - 1) * step; sample += step, word += 2)
         store_word(word, sound[sample]);
-    store_word(word, last < count ? sound[last] : 0);
+}
+
+static void write_words(uint8_t *block, const int32_t *sound, uint32_t count, size_t first, size_t step)
+{
+    size_t last = first + (WORDS - 1) * step;
+    store_words(block, sound, first, step);
+    store_word(block + BLOCK - 2, last < count ? sound[last] : 0);
 }
 
 static void write_as(const struct lent *lent, uint8_t *as, uint32_t mode)
@@ -742,5 +758,46 @@ uint32_t plain_write(uint32_t system, uint32_t count, const int32_t *sound, size
     for (uint32_t audio_channel = 1; audio_channel <= AUDIO_CHANNELS; audio_channel++)
         for (uint32_t row = 0; row < own->half; row++, frame += SEQUENCE)
             write_sequence(&lent, frame, audio_channel, row);
+    return 0;
+}
+
+/* ---- A new audio channel */
+
+/* The words of the samples of sequence `row` of a half of a DIF channel; a position from the count on stays as it is. */
+static void replace_sequence(const struct system *own, uint8_t *bytes, uint32_t row, const int32_t *samples, size_t count)
+{
+    size_t step = (size_t)own->half * 9;
+    uint8_t *block = bytes + A0;
+    for (uint32_t y = 0; y < 3; y++)
+        for (uint32_t j = 0; j < 3; j++, block += A_NEXT) {
+            size_t first = first_sample(own->half, row, y, j), last = first + (WORDS - 1) * step;
+            store_words(block, samples, first, step);
+            if (last < count)
+                store_word(block + BLOCK - 2, samples[last]);
+        }
+}
+
+uint32_t plain_replace_audio(uint32_t system, uint8_t *frame, size_t frame_length, uint32_t audio_channel,
+                             const int32_t *samples, size_t samples_length)
+{
+    if (system >= SYSTEMS)
+        return 1;
+    const struct system *own = &systems[system];
+    if (frame_length != frame_size(own))
+        return 2;
+    if (audio_channel < 1 || audio_channel > AUDIO_CHANNELS)
+        return 3;
+    struct source source = judge_channel(own, frame, audio_channel);
+    if (source.number)
+        return source.number;
+    if (samples_length != source.count)
+        return 29;
+    if (!all_samples(samples, samples_length))
+        return 31;
+    if (!source.recorded)
+        return 33;
+    uint8_t *bytes = frame + channel_start(own, audio_channel);
+    for (uint32_t row = 0; row < own->half; row++, bytes += SEQUENCE)
+        replace_sequence(own, bytes, row, samples, source.count);
     return 0;
 }

@@ -1,4 +1,4 @@
-/* The ten calls of dv100.h in plain C, with its structs: an implementation of its own, by document 01, to compare the library with. */
+/* The eleven calls of dv100.h in plain C, with its structs: an implementation of its own, by document 01, to compare the library with. */
 #ifndef PLAIN_H
 #define PLAIN_H
 
@@ -25,6 +25,9 @@ struct dv100_time plain_read_time(uint32_t system, const uint8_t *frame, size_t 
 
 struct dv100_survey plain_salvage(uint32_t system, const uint8_t *frame, size_t frame_length, int32_t *samples,
                                   size_t samples_length, uint32_t *list, size_t list_length);
+
+uint32_t plain_replace_audio(uint32_t system, uint8_t *frame, size_t frame_length, uint32_t audio_channel,
+                             const int32_t *samples, size_t samples_length);
 
 uint32_t plain_write(uint32_t system, uint32_t count, const int32_t *sound, size_t sound_length, const uint8_t *macroblocks,
                      size_t macroblocks_length, const uint8_t *time_code, size_t time_code_length, const uint8_t *binary_group,

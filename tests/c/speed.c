@@ -1,4 +1,4 @@
-/* speed: what the ten calls cost, library and plain.c side by side in one process. scripts/measure runs it.
+/* speed: what the eleven calls cost, library and plain.c side by side in one process. scripts/measure runs it.
  *
  *   speed rows                  a line for each row: its number, call and system
  *   speed time                  a line for each row: its number, call, system, nanoseconds a call of library and plain C
@@ -24,7 +24,7 @@ struct measured {
 static const struct measured systems[] = {{0, 480000, 1620, 5400, 1602}, {1, 576000, 1944, 6075, 1920}};
 
 /* What the calls are lent. The frame is one that was written; the damaged one has some blocks zeroed, the blank one all; in the
- * marked one audio channel 4 has mode 1111. */
+ * marked one audio channel 4 has mode 1111. The target is the written one again, for the calls that write. */
 static const struct measured *own;
 static uint8_t frame[LONGEST], damaged[LONGEST], blank[LONGEST], marked[LONGEST], target[LONGEST], macroblocks[77 * 6075];
 static int32_t sound[8 * 1920], samples[8 * 1944];
@@ -106,6 +106,14 @@ static void take_time(struct dv100_time answer)
     {                                                                                                                             \
         take_survey(side##_salvage(own->system, blank, own->frame_length, samples, 8 * own->positions, list, 4 * ROOM));          \
     }                                                                                                                             \
+    static void side##_replace_audio_row(void)                                                                                    \
+    {                                                                                                                             \
+        taken += side##_replace_audio(own->system, target, own->frame_length, 4, sound, own->count);                              \
+    }                                                                                                                             \
+    static void side##_replace_audio_refused_row(void)                                                                            \
+    {                                                                                                                             \
+        taken += side##_replace_audio(own->system, target, own->frame_length, 4, sound, own->count - 1);                          \
+    }                                                                                                                             \
     static void side##_write_row(void)                                                                                            \
     {                                                                                                                             \
         taken += side##_write(own->system, own->count, sound, 8 * (size_t)own->count, macroblocks, 77 * own->macroblocks,          \
@@ -139,6 +147,8 @@ static const struct {
     ROW("salvage", salvage),
     ROW("salvage, 28 blocks damaged", salvage_damaged),
     ROW("salvage, all blocks zeroed", salvage_blank),
+    ROW("replace_audio", replace_audio),
+    ROW("replace_audio, a sample too few refused", replace_audio_refused),
     ROW("write", write),
 };
 
