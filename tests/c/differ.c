@@ -1,5 +1,5 @@
-/* differ [CASES [SEED]]: the library beside plain.c. Each case makes a frame (written, damaged or rubbish) and asks all ten calls
- * of both sides, with copies of every lent buffer. Answers and buffers, with what lies around them, have to be the same. */
+/* differ [CASES [SEED]]: the library beside plain.c. Each case makes a frame (written, damaged or rubbish) and asks all eleven
+ * calls of both sides, with copies of every lent buffer. Answers and buffers, with what lies around them, have to be the same. */
 #define _DEFAULT_SOURCE
 #include "plain.h"
 
@@ -72,13 +72,27 @@ static void fill_noise(uint8_t *bytes, size_t size)
 
 /* ---- What was met: calls, refusals, differences */
 
-enum call { READ_ID, SURVEY, SURVEY_SEQUENCE, VIEW, CHECK, READ_AUDIO, MACROBLOCK, READ_TIME, SALVAGE, WRITE, CALLS };
+enum call {
+    READ_ID,
+    SURVEY,
+    SURVEY_SEQUENCE,
+    VIEW,
+    CHECK,
+    READ_AUDIO,
+    MACROBLOCK,
+    READ_TIME,
+    SALVAGE,
+    REPLACE_AUDIO,
+    WRITE,
+    CALLS
+};
 enum { MARKED_READ = CALLS, ROWS }; /* the table's last row: audio reads again, of channels with an AS of mode 1111 */
 
-static const char *const call_names[ROWS] = {"read_id",    "survey",    "survey_sequence", "view",  "check",      "read_audio",
-                                             "macroblock", "read_time", "salvage",         "write", "marked read"};
+static const char *const call_names[ROWS] = {"read_id",    "survey",    "survey_sequence", "view",          "check", "read_audio",
+                                             "macroblock", "read_time", "salvage",         "replace_audio", "write", "marked read"};
 
-static const uint8_t numbers[] = {0, 1, 2, 3, 4, 11, 12, 13, 14, 15, 21, 22, 23, 24, 25, 26, 27, 31, 32};
+static const uint8_t numbers[] = {0, 1, 2, 3, 4, 11, 12, 13, 14, 15, 21, 22, 23, 24, 25, 26, 27, 29, 31, 32, 33};
+enum { LAST_NUMBER = 33 };
 
 #define N(number) (UINT64_C(1) << (number))
 #define FAULTS (N(11) | N(12) | N(13) | N(14) | N(15))
@@ -95,13 +109,14 @@ static const uint64_t allowed[ROWS] = {
     [MACROBLOCK] = CHECKS | N(3) | N(23),
     [READ_TIME] = CHECKS | N(23) | N(26) | N(27),
     [SALVAGE] = N(0) | N(1) | N(2) | N(4),
+    [REPLACE_AUDIO] = CHECKS | N(3) | N(23) | N(24) | N(25) | N(29) | N(31) | N(33),
     [WRITE] = N(0) | N(1) | N(2) | N(3) | N(4) | N(31) | N(32),
     [MARKED_READ] = N(0) | N(24) | N(25),
 };
 
 enum { TOLD = 20 }; /* differences that are printed, of those that are counted */
 
-static uint32_t met[ROWS][33];
+static uint32_t met[ROWS][LAST_NUMBER + 1];
 static uint64_t calls, differences;
 static uint32_t case_number;
 static char asked[240]; /* the call and its arguments, for the report */
@@ -133,7 +148,7 @@ static bool answered(enum call call, const char *fields[], const uint32_t *libra
     for (size_t field = 0; field < count; field++)
         if (library[field] != plain[field])
             difference("the library's %s is %" PRIu32 ", plain C's %" PRIu32, fields[field], library[field], plain[field]);
-    if (plain[0] > 32 || !(allowed[call] >> plain[0] & 1))
+    if (plain[0] > LAST_NUMBER || !(allowed[call] >> plain[0] & 1))
         difference("number %" PRIu32 " is not one of this call's", plain[0]);
     else
         met[call][plain[0]]++;
@@ -922,7 +937,7 @@ static uint32_t make_lent(uint32_t like)
     return count;
 }
 
-/* ---- The ten calls on both sides */
+/* ---- The eleven calls on both sides */
 
 static const char *only_number[] = {"number"};
 static const char *id_fields[] = {"number", "section", "channel", "sequence", "block"};
@@ -1037,13 +1052,28 @@ static uint32_t audio_channel_of(const struct scene *scene)
     return 2 * scene->channel + (in_first_half(scene) ? 1 : 2);
 }
 
+/* Whether there is such an audio channel, and a whole frame is lent. */
+static bool has_channel(const struct scene *scene, uint32_t audio_channel)
+{
+    return audio_channel >= 1 && audio_channel <= 8 && elements(FRAME) == frame_size(scene->made);
+}
+
+/* The first sequence of an audio channel, in the scene's frame. */
+static struct scene first_of(const struct scene *scene, uint32_t audio_channel)
+{
+    struct scene first = *scene;
+    first.channel = (audio_channel - 1) / 2;
+    first.sequence = audio_channel % 2 ? 0 : facts[scene->made].sequences / 2;
+    return first;
+}
+
 /* How many AS packs of an audio channel say 1111, where a whole frame is lent. */
 static uint32_t marks_in(const struct scene *scene, uint32_t audio_channel)
 {
     uint32_t half = facts[scene->made].sequences / 2, marks = 0;
-    if (audio_channel < 1 || audio_channel > 8 || elements(FRAME) != frame_size(scene->made))
+    if (!has_channel(scene, audio_channel))
         return 0;
-    struct scene here = {.made = scene->made, .channel = (audio_channel - 1) / 2, .sequence = audio_channel % 2 ? 0 : half};
+    struct scene here = first_of(scene, audio_channel);
     for (uint32_t left = half; left > 0; left--, here.sequence++)
         marks += (as_of(&here)[2] & 0x0F) == 0x0F;
     return marks;
@@ -1053,7 +1083,7 @@ static uint32_t marks_in(const struct scene *scene, uint32_t audio_channel)
 static void marked_answered(struct dv100_audio library)
 {
     const int32_t *samples = lend(SAMPLES, LIBRARY);
-    if (library.number > 32 || !(allowed[MARKED_READ] >> library.number & 1))
+    if (library.number > LAST_NUMBER || !(allowed[MARKED_READ] >> library.number & 1))
         return;
     met[MARKED_READ][library.number]++;
     for (uint32_t sample = 0; sample < library.count && sample < elements(SAMPLES); sample++)
@@ -1133,6 +1163,61 @@ static void try_salvage(const struct scene *scene)
     changed(LIST, success);
 }
 
+/* The count that the first AS of an audio channel says; where it says none, one that the system has. */
+static uint32_t count_in(const struct scene *scene, uint32_t audio_channel)
+{
+    const uint32_t *counts = facts[scene->made].counts;
+    if (!has_channel(scene, audio_channel))
+        return counts[0];
+    struct scene first = first_of(scene, audio_channel);
+    return counts[(as_of(&first)[1] & 0x3F) == 22];
+}
+
+/* Where the library has replaced an audio channel: every byte outside of its sequences is as it was. */
+static void only_channel_changed(const struct scene *scene, uint32_t audio_channel)
+{
+    struct buffer *frame = &buffers[FRAME];
+    size_t size = facts[scene->system].sequences / 2 * SEQUENCE, from = frame->start + (audio_channel - 1) * size;
+    compare(frame, "before the audio channel", frame->side[LIBRARY], frame->before, frame->start, from);
+    compare(frame, "behind the audio channel", frame->side[LIBRARY], frame->before, from + size, frame->start + frame->length);
+}
+
+/* Tells whether it has succeeded: then the frames were compared and are as before again. Else the frames, and in any case the
+ * samples, have yet to be looked at. */
+static bool ask_replace_audio(const struct scene *scene, uint32_t audio_channel)
+{
+    size_t length = elements(FRAME), samples = elements(SOUND);
+    ask("replace_audio, system %" PRIu32 ", frame %zu, audio channel %" PRIu32 ", samples %zu", scene->system, length,
+        audio_channel, samples);
+    uint32_t library =
+        dv100_replace_audio(scene->system, lend(FRAME, LIBRARY), length, audio_channel, lend(SOUND, LIBRARY), samples);
+    uint32_t plain = plain_replace_audio(scene->system, lend(FRAME, PLAIN), length, audio_channel, lend(SOUND, PLAIN), samples);
+    bool success = answered(REPLACE_AUDIO, only_number, &library, &plain, 1);
+    if (success) {
+        only_channel_changed(scene, audio_channel);
+        changed(FRAME, true);
+    }
+    return success;
+}
+
+static void replace_and_look(const struct scene *scene, uint32_t audio_channel)
+{
+    if (!ask_replace_audio(scene, audio_channel))
+        changed(FRAME, false);
+    unchanged(SOUND);
+}
+
+static void try_replace_audio(const struct scene *scene)
+{
+    uint32_t audio_channel = percent(70) ? audio_channel_of(scene) : percent(10) ? 9 * below(2) : 1 + number_below(8);
+    set_length(SOUND, length_about(count_in(scene, audio_channel)));
+    make_sound();
+    if (percent(10))
+        break_sample();
+    share(SOUND, buffers[SOUND].length);
+    replace_and_look(scene, audio_channel);
+}
+
 typedef uint32_t writer(uint32_t system, uint32_t count, const int32_t *sound, size_t sound_length, const uint8_t *macroblocks,
                         size_t macroblocks_length, const uint8_t *time_code, size_t time_code_length,
                         const uint8_t *binary_group, size_t binary_group_length, uint8_t *frame, size_t frame_length);
@@ -1190,6 +1275,8 @@ static void run_case(void)
     ask_read_time(&scene);
     unchanged(FRAME);
     try_salvage(&scene);
+    try_replace_audio(&scene);
+    try_replace_audio(&scene);
     try_write(&scene);
 }
 
@@ -1239,9 +1326,11 @@ static void sweep_parts(const struct scene *scene)
         ask_macroblock(scene, macroblock);
 }
 
+/* Reads the audio channel, and replaces it. */
 static void ask_own_audio(const struct scene *scene)
 {
     ask_read_audio(scene, audio_channel_of(scene));
+    ask_replace_audio(scene, audio_channel_of(scene));
 }
 
 static void ask_strict_reads(const struct scene *scene)
@@ -1310,6 +1399,218 @@ static void sweep_written_time(const struct scene *scene)
     }
 }
 
+/* ---- Sweeps of replacing: a frame that is taken, and a list of samples for it */
+
+/* The same count in every AS, and noise in every word of sound, so that a word which has to stay shows. */
+static void give_words(struct scene *scene, uint8_t *bytes, uint32_t count)
+{
+    change_as(scene, bytes, count == 1600 ? 20 : count == 1602 ? 22 : 24);
+    for (uint32_t place = 6; place < PLACES; place += 16)
+        fill_noise(bytes + place * BLOCK + 8, BLOCK - 8);
+}
+
+static void make_replaceable(struct scene *scene, uint32_t count)
+{
+    set_length(FRAME, frame_size(scene->made));
+    memcpy(content(FRAME), pool[scene->made][0], frame_size(scene->made));
+    everywhere(scene, give_words, count);
+    share(FRAME, frame_size(scene->made));
+}
+
+static void make_new_samples(size_t length)
+{
+    set_length(SOUND, length);
+    make_sound();
+    share(SOUND, buffers[SOUND].length);
+}
+
+/* Asks for a replacement whose number is known. */
+static void replace_with(const struct scene *scene, uint32_t audio_channel, uint32_t due)
+{
+    uint32_t before = met[REPLACE_AUDIO][due];
+    replace_and_look(scene, audio_channel);
+    if (met[REPLACE_AUDIO][due] == before)
+        difference("number %" PRIu32 " is due", due);
+}
+
+/* Lists of other lengths, and every sort of number at the list's ends and inside. */
+static void sweep_lists(const struct scene *scene, uint32_t audio_channel, size_t count)
+{
+    static const int32_t samples[] = {-32768, -32767, 32767, DV100_LOST};
+    static const int32_t none[] = {-32769, 32769, 65536, -65536, INT32_MIN, INT32_MAX};
+    size_t lengths[] = {0, 1, count - 1, count, count + 1, 1600, 1602, 1620, 1920, 1944, 2 * count};
+    size_t places[] = {0, 1, count / 2, count - 1};
+    for (size_t length = 0; length < COUNT(lengths); length++) {
+        make_new_samples(lengths[length]);
+        replace_with(scene, audio_channel, lengths[length] == count ? 0 : 29);
+    }
+    make_new_samples(count);
+    for (size_t place = 0; place < COUNT(places); place++) {
+        int32_t *sample = (int32_t *)(void *)content(SOUND) + places[place], held = *sample;
+        for (size_t value = 0; value < COUNT(samples) + COUNT(none); value++) {
+            bool taken = value < COUNT(samples);
+            *sample = taken ? samples[value] : none[value - COUNT(samples)];
+            share(SOUND, buffers[SOUND].length);
+            replace_with(scene, audio_channel, taken ? 0 : 31);
+        }
+        *sample = held;
+        share(SOUND, buffers[SOUND].length);
+    }
+}
+
+/* One audio channel marked: it is refused, the others are not. */
+static void sweep_marks(struct scene *scene, uint32_t marked, size_t count)
+{
+    struct scene first = first_of(scene, marked);
+    make_replaceable(scene, (uint32_t)count);
+    set_modes(&first, 0x0F);
+    share(FRAME, frame_size(scene->made));
+    make_new_samples(count);
+    for (uint32_t audio_channel = 1; audio_channel <= 8; audio_channel++)
+        replace_with(scene, audio_channel, audio_channel == marked ? 33 : 0);
+}
+
+/* One attempt: some sequence and place of the audio channel that is asked for, until a cause of a refusal is put in. */
+struct attempt {
+    struct scene scene;
+    uint32_t audio_channel;
+};
+
+static void other_system(struct attempt *attempt)
+{
+    attempt->scene.system = SYSTEMS;
+}
+
+static void shorter_frame(struct attempt *attempt)
+{
+    lend_bytes(&buffers[FRAME], frame_size(attempt->scene.made) - 1);
+}
+
+static void other_channel(struct attempt *attempt)
+{
+    attempt->audio_channel = 9 * below(2);
+}
+
+static void reserved_section(struct attempt *attempt)
+{
+    reserve_section(&attempt->scene);
+}
+
+static void other_section(struct attempt *attempt)
+{
+    uint8_t *block = block_of(&attempt->scene);
+    block[0] = (uint8_t)((block[0] & 0x1F) | ((block[0] >> 5) + 1) % 5 << 5);
+}
+
+static void other_dif_channel(struct attempt *attempt)
+{
+    block_of(&attempt->scene)[1] ^= 0x08;
+}
+
+static void other_sequence(struct attempt *attempt)
+{
+    block_of(&attempt->scene)[1] ^= 0x10;
+}
+
+static void other_block_number(struct attempt *attempt)
+{
+    block_of(&attempt->scene)[2] ^= 0x01;
+}
+
+static void other_rate(struct attempt *attempt)
+{
+    flip_rate(&attempt->scene);
+}
+
+static void other_vs(struct attempt *attempt)
+{
+    vs_of(&attempt->scene)[0] ^= 0x01;
+}
+
+static void invalid_sound(struct attempt *attempt)
+{
+    sequence_of(&attempt->scene)[5] |= 0x80;
+}
+
+static void other_as(struct attempt *attempt)
+{
+    as_of(&attempt->scene)[0] ^= 0x01;
+}
+
+/* Another count in one AS; at 50 Hz there is none, and one AS is marked where the others are not, or the other way. */
+static void differing_as(struct attempt *attempt)
+{
+    uint8_t *as = as_of(&attempt->scene);
+    if (!at_50_hz(attempt->scene.made))
+        as[1] ^= 0x02;
+    else
+        set_mode(&attempt->scene, (as[2] & 0x0F) == 0x0F ? (attempt->audio_channel - 1) % 2 : 0x0F);
+}
+
+static void other_length(struct attempt *attempt)
+{
+    size_t length = buffers[SOUND].length;
+    (void)attempt;
+    lend_bytes(&buffers[SOUND], percent(50) ? length + 4 : length - 4);
+}
+
+static void no_sample(struct attempt *attempt)
+{
+    static const int32_t none[] = {-32769, 32769, INT32_MIN, INT32_MAX};
+    (void)attempt;
+    ((int32_t *)(void *)content(SOUND))[below((uint32_t)elements(SOUND))] = PICK(none);
+}
+
+static void marked_channel(struct attempt *attempt)
+{
+    set_modes(&attempt->scene, 0x0F);
+}
+
+/* Every cause of a refusal, in document 01's order. Those of 11 to 15 are put in the same block. */
+static const struct {
+    uint32_t number;
+    void (*put)(struct attempt *attempt);
+} causes[] = {
+    {1, other_system},   {2, shorter_frame},      {3, other_channel},   {11, reserved_section},
+    {12, other_section}, {13, other_dif_channel}, {14, other_sequence}, {15, other_block_number},
+    {21, other_rate},    {22, other_vs},          {23, invalid_sound},  {24, other_as},
+    {25, differing_as},  {29, other_length},      {31, no_sample},      {33, marked_channel},
+};
+
+/* Two causes, or one twice: the lower number is given. It is put in last, since it may undo what the higher one stands on. */
+static void sweep_pair(uint32_t system, uint32_t audio_channel, size_t lower, size_t higher)
+{
+    struct attempt attempt = {{.made = system, .system = system}, audio_channel};
+    uint32_t either = below(2), half = facts[system].sequences / 2;
+    make_replaceable(&attempt.scene, facts[system].counts[either]);
+    attempt.scene = first_of(&attempt.scene, audio_channel);
+    attempt.scene.sequence += below(half);
+    attempt.scene.place = below(PLACES);
+    make_new_samples(facts[system].counts[either]);
+    if (higher != lower)
+        causes[higher].put(&attempt);
+    causes[lower].put(&attempt);
+    copy_to_sides(&buffers[FRAME], 0, whole(&buffers[FRAME]));
+    copy_to_sides(&buffers[SOUND], 0, whole(&buffers[SOUND]));
+    replace_with(&attempt.scene, attempt.audio_channel, causes[lower].number);
+}
+
+/* Every system, count and audio channel; every two causes of a refusal. */
+static void sweep_replacing(uint32_t system)
+{
+    struct scene scene = {.made = system, .system = system};
+    for (uint32_t which = 0; which < (at_50_hz(system) ? 1 : 2); which++)
+        for (uint32_t audio_channel = 1; audio_channel <= 8; audio_channel++) {
+            make_replaceable(&scene, facts[system].counts[which]);
+            sweep_lists(&scene, audio_channel, facts[system].counts[which]);
+            sweep_marks(&scene, audio_channel, facts[system].counts[which]);
+        }
+    for (size_t higher = 0; higher < COUNT(causes); higher++)
+        for (size_t lower = 0; lower <= higher; lower++)
+            for (uint32_t turn = 0; turn < 2; turn++)
+                sweep_pair(system, 1 + below(8), lower, higher);
+}
+
 static void sweep_frame(uint32_t system)
 {
     uint32_t sequences = facts[system].sequences;
@@ -1323,11 +1624,14 @@ static void sweep_frame(uint32_t system)
     memcpy(content(FRAME), pool[system][0], frame_size(system));
     share(FRAME, frame_size(system));
     set_length(SAMPLES, facts[system].positions);
+    make_new_samples(count_in(&scenes[0], 1));
     sweep_parts(&scenes[0]);
     for (size_t scene = 0; scene < COUNT(scenes); scene++)
         sweep_sequence(&scenes[scene]);
     unchanged(FRAME);
+    unchanged(SOUND);
     sweep_written_time(&scenes[0]);
+    sweep_replacing(system);
 }
 
 static void sweep(void)

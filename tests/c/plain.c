@@ -617,7 +617,7 @@ static void store_word(uint8_t *word, int32_t sample)
     word[1] = (uint8_t)stored;
 }
 
-/* Sample `first` and every step-th after it, but for the block's last word: that one alone may be at a position from the count on. */
+/* Sample `first` and every step-th after it, but for the last word, which alone may be at a position from the count on. */
 static void store_words(uint8_t *block, const int32_t *sound, size_t first, size_t step)
 {
     uint8_t *word = block + SOUND;
