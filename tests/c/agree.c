@@ -1,6 +1,6 @@
 /* Lays the library beside an independent decoder (paper.h): frames written, frames damaged, the known places of the scope
- * paper, document 01, the printed rows of the Recommendation's tables, and audio channels marked 1111. A line says "agree", or
- * "DIFFERS" and where. */
+ * paper, document 01, the printed rows of the Recommendation's tables, audio channels marked 1111, and audio channels replaced. A
+ * line says "agree", or "DIFFERS" and where. */
 #include "dv100.h"
 #include "paper.h"
 #include "printed.h"
@@ -16,7 +16,7 @@ enum {
     MOST_PICTURE = PAPER_MOST_MACROBLOCKS * PAPER_PAYLOAD_BYTES,
     SEQUENCE_BYTES = PAPER_PLACES * PAPER_BLOCK_BYTES,
     RECORD = 4,
-    LAST_REFUSAL = 32,
+    LAST_REFUSAL = 33,
     UNTOUCHED = 0x5a5a5a5a
 };
 
@@ -372,10 +372,14 @@ static void compare_aaux(const struct trial *trial)
 }
 
 /* What a given sample is read back as. */
+static int32_t read_back(int32_t given)
+{
+    return given == -32768 ? -32767 : given;
+}
+
 static int32_t due_sample(const struct trial *trial, unsigned audio_channel, unsigned n)
 {
-    int32_t given = trial->sound[(audio_channel - 1) * trial->count + n];
-    return given == -32768 ? -32767 : given;
+    return read_back(trial->sound[(audio_channel - 1) * trial->count + n]);
 }
 
 static void compare_sound_given(const struct trial *trial)
@@ -804,15 +808,19 @@ static void print_from(unsigned first, const struct tally tallies[ASKED])
 }
 
 /* The numbers that the judging calls have answered on damaged frames. */
+static void print_met(const char *call, const unsigned long met[LAST_REFUSAL + 1])
+{
+    printf("damaged frames, %s has answered", call);
+    for (unsigned number = 0; number <= LAST_REFUSAL; number++)
+        if (met[number] > 0)
+            printf(" %u", number);
+    puts("");
+}
+
 static void print_numbers_met(void)
 {
-    for (unsigned at = FIRST_JUDGING; at < ASKED; at++) {
-        printf("damaged frames, %s has answered", asked[at].call);
-        for (unsigned number = 0; number <= LAST_REFUSAL; number++)
-            if (numbers_met[at][number] > 0)
-                printf(" %u", number);
-        puts("");
-    }
+    for (unsigned at = FIRST_JUDGING; at < ASKED; at++)
+        print_met(asked[at].call, numbers_met[at]);
 }
 
 /* Each pattern on a frame of its own. */
@@ -1721,6 +1729,233 @@ static void mark_and_compare(struct trial *trial, unsigned system, unsigned coun
     compare_all_unaffected(trial);
 }
 
+/* ---- 6. audio channels replaced */
+
+/* New samples of an audio channel: how many of them are lent, and room for one more than any audio channel has. */
+struct list {
+    unsigned length;
+    int32_t samples[PAPER_MOST_SAMPLES + 1];
+};
+
+static struct list random_list(unsigned length)
+{
+    struct list list = {.length = length};
+    for (unsigned n = 0; n <= PAPER_MOST_SAMPLES; n++)
+        list.samples[n] = random_sample();
+    return list;
+}
+
+/* Whether the frame is as before but for the bytes of an audio channel's samples below a count. */
+static int only_samples_differ(const struct trial *trial, const uint8_t before[MOST_FRAME], unsigned audio_channel,
+                               unsigned count)
+{
+    static uint8_t rest[MOST_FRAME];
+    memcpy(rest, trial->frame, MOST_FRAME);
+    for (unsigned n = 0; n < count; n++) {
+        unsigned start = paper_sample_start(trial->map, audio_channel, n);
+        memcpy(rest + start, before + start, 2);
+    }
+    return memcmp(rest, before, MOST_FRAME) == 0;
+}
+
+/* The number; the new samples, by the decoder; every other byte, and the list, as they were. */
+static void compare_replacing(struct trial *trial, struct tally *tally, unsigned audio_channel, const struct list *list)
+{
+    static uint8_t before[MOST_FRAME];
+    struct list kept = *list;
+    unsigned due = paper_judge_replacing(trial->map, trial->frame, audio_channel, list->samples, list->length);
+    unsigned count = due ? 0 : list->length;
+    memcpy(before, trial->frame, MOST_FRAME);
+    uint32_t said = dv100_replace_audio(trial->system, trial->frame, trial->frame_bytes, audio_channel, list->samples,
+                                        list->length);
+    tell_answer(tally, said);
+    compare(tally, said == due, "audio channel %u, %u samples: decoder %u, library %u", audio_channel, list->length, due, said);
+    require(tally, only_samples_differ(trial, before, audio_channel, count), "audio channel %u, refusal %u: another byte",
+            audio_channel, due);
+    for (unsigned n = 0; n < count; n++) {
+        int32_t sample = paper_sample(trial->map, trial->frame, audio_channel, n);
+        require(tally, sample == read_back(list->samples[n]), "audio channel %u sample %u: given %d, decoder %d", audio_channel,
+                n, list->samples[n], sample);
+    }
+    require(tally, memcmp(list, &kept, sizeof kept) == 0, "audio channel %u: the list has changed", audio_channel);
+}
+
+/* One audio channel after the other in a written frame. */
+static void compare_replaced_written(struct trial *trial)
+{
+    struct tally replaced = tally_of_trial(trial, "audio channels", "replaced in a written frame");
+    struct tally read = tally_of_trial(trial, "audio channels", "replaced in a written frame, dv100_read_audio");
+    struct tally written = tally_of_trial(trial, "frames", "replaced in a written frame, dv100_write of the changed sound");
+    static uint8_t frame[MOST_FRAME];
+    random_content(trial);
+    write_frame(trial);
+    for (unsigned audio_channel = 1; audio_channel <= PAPER_AUDIO_CHANNELS; audio_channel++) {
+        struct list list = random_list(trial->count);
+        compare_replacing(trial, &replaced, audio_channel, &list);
+        compare_audio(trial, &read);
+        memcpy(frame, trial->frame, MOST_FRAME);
+        memcpy(trial->sound + (audio_channel - 1) * trial->count, list.samples, trial->count * sizeof *list.samples);
+        write_frame(trial);
+        compare(&written, memcmp(trial->frame, frame, MOST_FRAME) == 0, "audio channel %u", audio_channel);
+    }
+    print_tally(&replaced);
+    print_tally(&read);
+    print_tally(&written);
+}
+
+/* Noise in all that is not judged: also in the picture, and in every word of sound, those from the count on with them. */
+static void scramble_frame(struct trial *trial)
+{
+    for (unsigned dif_channel = 0; dif_channel < PAPER_DIF_CHANNELS; dif_channel++) {
+        scramble_dif_channel(trial, dif_channel);
+        for (unsigned dif_sequence = 0; dif_sequence < trial->map->system->dif_sequences; dif_sequence++)
+            for (unsigned place = 0; place < PAPER_PLACES; place++) {
+                uint8_t *block = trial->frame + paper_place_start(trial->map->system, dif_channel, dif_sequence, place);
+                unsigned section = trial->map->figure_3[place].section;
+                if (section == PAPER_VIDEO)
+                    random_bytes(block + PAPER_PAYLOAD, PAPER_PAYLOAD_BYTES);
+                if (section == PAPER_AUDIO)
+                    random_bytes(block + PAPER_PAYLOAD + PAPER_PACK_BYTES, PAPER_PAYLOAD_BYTES - PAPER_PACK_BYTES);
+            }
+    }
+}
+
+static void compare_replaced_scrambled(struct trial *trial)
+{
+    struct tally tally = tally_of_trial(trial, "audio channels", "replaced in a frame with all that is not judged at random");
+    random_content(trial);
+    write_frame(trial);
+    scramble_frame(trial);
+    for (unsigned audio_channel = 1; audio_channel <= PAPER_AUDIO_CHANNELS; audio_channel++) {
+        struct list list = random_list(trial->count);
+        compare_replacing(trial, &tally, audio_channel, &list);
+    }
+    print_tally(&tally);
+}
+
+/* The count that the system has beside the trial's, or at 50 Hz the same. */
+static unsigned other_count(const struct trial *trial)
+{
+    const unsigned *counts = trial->map->system->counts;
+    return counts[1] == 0 ? trial->count : counts[0] + counts[1] - trial->count;
+}
+
+/* An audio channel of which all AS say the other count is replaced by as many samples. */
+static void compare_replaced_recounted(struct trial *trial)
+{
+    struct tally tally = tally_of_trial(trial, "audio channels", "replaced in a frame that says the other count");
+    write_undamaged(trial);
+    for (unsigned audio_channel = 1; audio_channel <= PAPER_AUDIO_CHANNELS; audio_channel++) {
+        struct list list = random_list(other_count(trial)), old = random_list(trial->count);
+        memcpy(trial->frame, undamaged, trial->frame_bytes);
+        for (unsigned number = 0; number < half_of(trial); number++)
+            flip(as_of_channel(trial, audio_channel, number), 8 + 6);
+        compare_replacing(trial, &tally, audio_channel, &old);
+        compare_replacing(trial, &tally, audio_channel, &list);
+    }
+    print_tally(&tally);
+}
+
+/* Every audio channel with lists of many lengths, and with numbers that are samples and others at both ends of them. */
+static void compare_lists(struct trial *trial, struct tally *tally)
+{
+    unsigned lengths[] = {0, 1, trial->count - 1, trial->count, trial->count + 1, other_count(trial), trial->map->system->samples};
+    static const int32_t numbers[] = {-32768, -32767, 32767, DV100_LOST, -32769, 32769, -65536, 65536, INT32_MIN, INT32_MAX};
+    for (unsigned audio_channel = 1; audio_channel <= PAPER_AUDIO_CHANNELS; audio_channel++)
+        for (unsigned length = 0; length < sizeof lengths / sizeof lengths[0]; length++)
+            for (unsigned number = 0; number < sizeof numbers / sizeof numbers[0]; number++) {
+                struct list first = random_list(lengths[length]), last = first;
+                first.samples[0] = numbers[number];
+                last.samples[last.length > 0 ? last.length - 1 : 0] = numbers[number];
+                compare_replacing(trial, tally, audio_channel, &first);
+                compare_replacing(trial, tally, audio_channel, &last);
+            }
+}
+
+static void compare_all_lists(struct trial *trial)
+{
+    struct tally recorded = tally_of_trial(trial, "lists", "lists of other lengths and numbers, dv100_replace_audio");
+    struct tally marked = tally_of_trial(trial, "lists", "marked, lists of other lengths and numbers, dv100_replace_audio");
+    random_content(trial);
+    write_frame(trial);
+    compare_lists(trial, &recorded);
+    mark_all(trial);
+    compare_lists(trial, &marked);
+    print_tally(&recorded);
+    print_tally(&marked);
+}
+
+/* The audio channel that has its sound in the first sequence with damage; 1 where there is none. */
+static unsigned damaged_channel(const struct trial *trial)
+{
+    unsigned in_channel = trial->map->system->dif_sequences, at = 0, end = PAPER_DIF_CHANNELS * in_channel;
+    while (at < end && memcmp(trial->frame + at * SEQUENCE_BYTES, undamaged + at * SEQUENCE_BYTES, SEQUENCE_BYTES) == 0)
+        at++;
+    return at < end ? paper_audio_channel(trial->map->system, at / in_channel, at % in_channel) : 1;
+}
+
+static unsigned long replacing_met[LAST_REFUSAL + 1];
+
+/* A damaged frame: samples that are none and one too many, then samples that are right. */
+static void replace_in_damaged(struct trial *trial, struct tally *tally)
+{
+    struct list right = random_list(trial->count), wrong = random_list(trial->count + 1);
+    unsigned audio_channel = damaged_channel(trial);
+    wrong.samples[below(wrong.length)] = 32769;
+    compare_replacing(trial, tally, audio_channel, &wrong);
+    compare_replacing(trial, tally, audio_channel, &right);
+}
+
+static void finish_damaged(const struct tally *tally)
+{
+    for (unsigned number = 0; number <= LAST_REFUSAL; number++)
+        replacing_met[number] += tally->answered[number];
+    print_tally(tally);
+}
+
+static struct tally tally_of_damaged(const struct trial *trial, const char *pattern)
+{
+    return tally_of("lists", "%s, %u samples, %s, dv100_replace_audio", trial->map->system->name, trial->count, pattern);
+}
+
+static void replace_in_patterns(struct trial *trial, const struct judged_pattern *patterns, unsigned length)
+{
+    for (const struct judged_pattern *pattern = patterns; pattern < patterns + length; pattern++) {
+        struct tally tally = tally_of_damaged(trial, pattern->name);
+        for (unsigned step = 0; step < pattern->steps; step++) {
+            memcpy(trial->frame, undamaged, trial->frame_bytes);
+            pattern->damage(trial, step);
+            replace_in_damaged(trial, &tally);
+        }
+        finish_damaged(&tally);
+    }
+}
+
+static void replace_in_all_damaged(struct trial *trial)
+{
+    write_undamaged(trial);
+    for (unsigned at = 0; at < sizeof block_patterns / sizeof block_patterns[0]; at++) {
+        struct tally tally = tally_of_damaged(trial, block_patterns[at].name);
+        memcpy(trial->frame, undamaged, trial->frame_bytes);
+        block_patterns[at].damage(trial);
+        replace_in_damaged(trial, &tally);
+        finish_damaged(&tally);
+    }
+    replace_in_patterns(trial, judged_patterns, JUDGED_PATTERNS);
+    replace_in_patterns(trial, marked_patterns, MARKED_PATTERNS);
+}
+
+static void replace_and_compare(struct trial *trial, unsigned system, unsigned count)
+{
+    set_up(trial, system, count);
+    compare_replaced_written(trial);
+    compare_replaced_scrambled(trial);
+    if (!trial->map->system->is_50_hz)
+        compare_replaced_recounted(trial);
+    compare_all_lists(trial);
+    replace_in_all_damaged(trial);
+}
+
 /* ---- */
 
 static void compare_count(struct trial *trial, unsigned system, unsigned count)
@@ -1755,6 +1990,11 @@ int main(void)
         for (unsigned which = 0; which < 2; which++)
             if (maps[system].system->counts[which] > 0)
                 mark_and_compare(&trial, system, maps[system].system->counts[which]);
+    for (unsigned system = 0; system < PAPER_SYSTEMS; system++)
+        for (unsigned which = 0; which < 2; which++)
+            if (maps[system].system->counts[which] > 0)
+                replace_and_compare(&trial, system, maps[system].system->counts[which]);
     print_numbers_met();
+    print_met("dv100_replace_audio", replacing_met);
     return lines_that_differ > 0;
 }

@@ -162,9 +162,11 @@ static void build_samples(struct paper_map *map)
                     map->system->is_50_hz ? shuffle_50(i, second, n) : shuffle_60(i, second, n);
 }
 
-static unsigned sample_block(const struct paper_map *map, struct paper_sample_place at)
+unsigned paper_sample_start(const struct paper_map *map, unsigned audio_channel, unsigned n)
 {
-    return paper_block_start(map, (struct paper_id){PAPER_AUDIO, at.dif_channel, at.dif_sequence, at.audio_dif_block});
+    struct paper_sample_place at = map->sample[audio_channel][n];
+    struct paper_id block = {PAPER_AUDIO, at.dif_channel, at.dif_sequence, at.audio_dif_block};
+    return paper_block_start(map, block) + at.byte;
 }
 
 /* § 3.6.2.2: the upper byte contains the MSB. § 3.6.2.1.3: 8000h is the audio error code. */
@@ -178,8 +180,7 @@ static int32_t level(const uint8_t bytes[2])
 
 int32_t paper_sample(const struct paper_map *map, const uint8_t *frame, unsigned audio_channel, unsigned n)
 {
-    struct paper_sample_place at = map->sample[audio_channel][n];
-    return level(frame + sample_block(map, at) + at.byte);
+    return level(frame + paper_sample_start(map, audio_channel, n));
 }
 
 int32_t paper_salvaged_sample(const struct paper_map *map, const uint8_t *frame, unsigned audio_channel, unsigned n)
@@ -652,6 +653,20 @@ unsigned paper_judge_time(const struct paper_map *map, const uint8_t *frame)
     if (tc[0] != time_header(PAPER_TC) || bg[0] != time_header(PAPER_BG) || !are_digits(map->system, tc + 1))
         return 26;
     return paper_read_time(map, frame, PAPER_TC, pc) == 0 || paper_read_time(map, frame, PAPER_BG, pc) == 0 ? 27 : 0;
+}
+
+unsigned paper_judge_replacing(const struct paper_map *map, const uint8_t *frame, unsigned audio_channel, const int32_t *samples,
+                               unsigned length)
+{
+    unsigned refusal = paper_judge_audio(map, frame, audio_channel);
+    if (refusal)
+        return refusal;
+    if (length != paper_count(map, frame, audio_channel))
+        return 29;
+    for (unsigned n = 0; n < length; n++)
+        if (samples[n] < -32768 || samples[n] > PAPER_LOST)
+            return 31;
+    return paper_mode(map, frame, audio_channel) == PAPER_INVALID_AUDIO ? 33 : 0;
 }
 
 /* ---- */

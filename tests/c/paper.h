@@ -110,6 +110,9 @@ unsigned paper_fault(const struct paper_map *map, const uint8_t *frame, unsigned
 int32_t paper_sample(const struct paper_map *map, const uint8_t *frame, unsigned audio_channel, unsigned n);
 int32_t paper_salvaged_sample(const struct paper_map *map, const uint8_t *frame, unsigned audio_channel, unsigned n);
 
+/* The first of the two bytes of sample n of an audio channel. */
+unsigned paper_sample_start(const struct paper_map *map, unsigned audio_channel, unsigned n);
+
 /* The samples per frame that all AS packs of an audio channel agree on, or 0; and their audio mode. */
 unsigned paper_count(const struct paper_map *map, const uint8_t *frame, unsigned audio_channel);
 enum paper_audio_mode paper_mode(const struct paper_map *map, const uint8_t *frame, unsigned audio_channel);
@@ -162,5 +165,9 @@ unsigned paper_judge_frame(const struct paper_map *map, const uint8_t *frame);
 unsigned paper_judge_audio(const struct paper_map *map, const uint8_t *frame, unsigned audio_channel);
 unsigned paper_judge_picture(const struct paper_map *map, const uint8_t *frame);
 unsigned paper_judge_time(const struct paper_map *map, const uint8_t *frame);
+
+/* The same for new samples of an audio channel, so many of them. */
+unsigned paper_judge_replacing(const struct paper_map *map, const uint8_t *frame, unsigned audio_channel, const int32_t *samples,
+                               unsigned length);
 
 #endif
