@@ -63,7 +63,8 @@ made made3 1 960x720 50 10
 made threads2 2 960x720 60000/1001 10
 made threads3 2 960x720 50 10
 
-in_place='5 frames: 0 blocks misplaced; refusals: check 0, audio 24 24 24 24 24 24 24 24, time 26'
+all_24='24 24 24 24 24 24 24 24' all_13='13 13 13 13 13 13 13 13'
+in_place="5 frames: 0 blocks misplaced; refusals: check 0, audio $all_24, replacing $all_24, time 26"
 packs='24: LF is 1, which table 19 reserves; 26: SSYB 4 is a time code pack, where table 10 has the binary group'
 for s in 0 1 2 3; do
     expect "made by ffmpeg, ${names[s]}" "$in_place" "$(found $s made$s)" "$packs"
@@ -72,18 +73,20 @@ done
 out_of_place() {
     local blocks="$2 blocks misplaced from DIF channel 2 sequence 0 place 0 on, $2 with fault 13"
     expect "made by two threads of ffmpeg, ${names[$1]}" \
-        "5 frames: $blocks; refusals: check 13, audio 13 13 13 13 13 13 13 13, time 13" \
+        "5 frames: $blocks; refusals: check 13, audio $all_13, replacing $all_13, time 13" \
         "$(found "$1" "threads$1")" 'it names both halves DIF channels 0 and 1'
 }
 out_of_place 2 3000
 out_of_place 3 3600
 
 # ---- the same, with LF 0 and binary groups: the sound that ffmpeg was given, and its time code
-# mended SYSTEM HALVES AUDIO FRAMES SOUND WHY: AUDIO the refusals of audio channels 5 to 8, FRAMES the first byte of each time code
+# mended SYSTEM HALVES AUDIO FRAMES SOUND WHY: AUDIO the refusals of audio channels 5 to 8, read or replaced, FRAMES the first byte of
+# each time code
 mended() {
+    local refusals="check 0, audio 0 0 0 0 $3, replacing 0 0 0 0 $3, time 0"
     job mend "$1" <"made$1" >mended
     expect "made by ffmpeg and mended, ${names[$1]}" \
-        "5 frames: 0 blocks misplaced; refusals: check 0, audio 0 0 0 0 $3, time 0; $(printf '%s 83 82 C1, ' $4)$5" \
+        "5 frames: 0 blocks misplaced; refusals: $refusals; $(printf '%s 83 82 C1, ' $4)$5" \
         "$(found "$1" mended); $(job listen "$1" "$2" <mended)" "$6"
 }
 mended 0 0 '24 24 24 24' '04 05 06 07 08' '0 of 32032 samples wrong, 0 unexplained' \
@@ -94,6 +97,16 @@ mended 2 1 '0 0 0 0' '02 03 04 05 06' '0 of 64064 samples wrong, 0 unexplained' 
     'ffmpeg muxes by halves: audio channels 5 to 8 are what follows in 1 to 4'
 mended 3 1 '0 0 0 0' '42 43 44 45 46' '74640 of 76800 samples wrong, 0 unexplained' \
     'from word to word of a block ffmpeg steps 45 samples, as at 60 Hz, where 9 blocks of 6 sequences make 54'
+
+# replaced_in_mended SYSTEM LENGTH: a frame that is not of our writer takes new sound, which comes out as 9
+replaced_in_mended() {
+    job mend "$1" <"made$1" | job replace "$1" 3 0 >mended
+    heard mended
+    expect "made by ffmpeg, mended, audio channel 3 replaced, ${names[$1]}" '1 2 9 4' "$(job sides "$2" mended.1 mended.2)" \
+        "what ffmpeg reads of the two pairs that it was given, all $((4 * $2)) samples equal but for the new ones"
+}
+replaced_in_mended 0 8008
+replaced_in_mended 1 9600
 
 heard made3
 expect "made by ffmpeg and read by ffmpeg, ${names[3]}" '11640 of 76800 samples wrong, 0 unexplained' \
@@ -147,7 +160,28 @@ read_back 2 1600 1602 1602 1602 1602
 job write 3 0 1920 1920 1920 1920 >ours
 heard ours
 expect "our sound, ${names[3]}, 4 frames" '59840 of 61440 samples wrong, 0 unexplained' \
-    "$(job strides ours.1 ours.2 ours.3 ours.4)" 'ffmpeg takes the 60 Hz step of 45 for 54 again'
+    "$(job strides 0 ours.1 ours.2 ours.3 ours.4)" 'ffmpeg takes the 60 Hz step of 45 for 54 again'
+
+# ---- the same with one audio channel replaced by sound of its own, which comes out as 9
+# replaced_back SYSTEM AUDIO_CHANNEL COUNT...
+replaced_back() {
+    local s=$1 c=$2 count sum=0
+    shift 2
+    for count in "$@"; do sum=$((sum + count)); done
+    job write "$s" 0 "$@" | job replace "$s" "$c" 0 >ours
+    heard ours
+    expect "our sound, audio channel $c replaced, ${names[s]}, frames of $*" "$(echo 1 2 3 4 5 6 7 8 | tr "$c" 9)" \
+        "$(job sides "$sum" ours.1 ours.2 ours.3 ours.4)" "the new sound in its place, all $((8 * sum)) samples equal"
+}
+for c in 1 2 3 4 5 6 7 8; do replaced_back 0 "$c" 1600 1602 1602 1602 1602; done
+replaced_back 1 3 1920 1920 1920
+replaced_back 1 8 1920 1920 1920
+replaced_back 2 4 1600 1602 1602 1602 1602
+replaced_back 2 5 1602 1602 1602
+job write 3 0 1920 1920 1920 1920 | job replace 3 6 0 >ours
+heard ours
+expect "our sound, audio channel 6 replaced, ${names[3]}, 4 frames" '59840 of 61440 samples wrong, 0 unexplained' \
+    "$(job strides 6 ours.1 ours.2 ours.3 ours.4)" 'the new sound in its place, by the same step of 45'
 
 # ---- lost samples, and an audio block overwritten with 55h: DIF channel 0, sequence 0, place 6
 job write 0 100 1600 >ours
@@ -155,6 +189,11 @@ heard ours
 expect "every 100th sample lost, ${names[0]}" \
     '12672 equal, 128 lost where ffmpeg has 0, 0 lost where it has a level, 0 different, dv100_read_audio has 128 lost' \
     "$(job beside 0 1600 ours.1 ours.2 ours.3 ours.4 <ours)" 'ffmpeg turns 8000h into silence'
+job write 0 0 1600 | job replace 0 3 100 >ours
+heard ours
+expect "audio channel 3 replaced, every 100th sample lost, ${names[0]}" \
+    '12784 equal, 16 lost where ffmpeg has 0, 0 lost where it has a level, 0 different, dv100_read_audio has 16 lost' \
+    "$(job beside 0 1600 ours.1 ours.2 ours.3 ours.4 <ours)" 'silence again, where the new sound has 8000h'
 job write 0 0 1600 >ours
 head -c 80 /dev/zero | tr '\0' U | dd of=ours bs=80 seek=6 conv=notrunc status=none
 heard ours

@@ -112,6 +112,18 @@ static void print_faults(uint32_t system)
             printf(", %u with fault %u", of_fault[fault], fault);
 }
 
+/* the refusal of new samples for an audio channel, in a copy of the frame: as many as its count, and where the read is refused,
+ * as many as a frame may have */
+static uint32_t replacing_number(uint32_t system, uint32_t audio_channel)
+{
+    static uint8_t copy[FRAME_MOST];
+    struct dv100_audio read = dv100_read_audio(system, frame, frame_length(system), audio_channel, sound, positions(system));
+    memcpy(copy, frame, frame_length(system));
+    memset(sound, 0, sizeof sound);
+    return dv100_replace_audio(system, copy, frame_length(system), audio_channel, sound,
+                               read.number ? system & 1 ? 1920 : 1600 : read.count);
+}
+
 /* find SYSTEM: what the library says of each frame */
 static int find(uint32_t system)
 {
@@ -120,6 +132,9 @@ static int find(uint32_t system)
         printf("; refusals: check %u, audio", dv100_check(system, frame, frame_length(system)));
         for (uint32_t c = 1; c <= 8; c++)
             printf(" %u", dv100_read_audio(system, frame, frame_length(system), c, sound, positions(system)).number);
+        printf(", replacing");
+        for (uint32_t c = 1; c <= 8; c++)
+            printf(" %u", replacing_number(system, c));
         printf(", time %u\n", dv100_read_time(system, frame, frame_length(system)).number);
     }
     return 0;
@@ -146,6 +161,29 @@ static int mend(uint32_t system)
         for (uint32_t i = 0; i < 4 * n; i++)
             mend_sequence(frame + 12000 * i, i % n < n / 2);
         fwrite(frame, 1, frame_length(system), stdout);
+    }
+    return 0;
+}
+
+/* The sound of no audio channel, for one that is replaced. */
+enum { NEW = 9 };
+
+/* replace SYSTEM AUDIO_CHANNEL EVERY: the frames with new sound in an audio channel; of every EVERY samples the first is lost, none
+ * where EVERY is 0 */
+static int replace(uint32_t system, uint32_t audio_channel, uint32_t every)
+{
+    uint32_t number = 0;
+    while (get_frame(system)) {
+        struct dv100_audio read = dv100_read_audio(system, frame, frame_length(system), audio_channel, sound, positions(system));
+        for (uint32_t t = 0; t < read.count; t++)
+            sound[t] = every && (number + t) % every == 0 ? DV100_LOST : level(NEW, number + t);
+        uint32_t refusal = dv100_replace_audio(system, frame, frame_length(system), audio_channel, sound, read.count);
+        if (refusal) {
+            fprintf(stderr, "dv100_replace_audio refuses with %u\n", refusal);
+            return 1;
+        }
+        fwrite(frame, 1, frame_length(system), stdout);
+        number += read.count;
     }
     return 0;
 }
@@ -235,10 +273,10 @@ static int carry(uint32_t system)
     return 0;
 }
 
-/* which audio channel one side of heard is from its first sample to its last, 0 for none */
+/* which audio channel, or the new sound, one side of heard is from its first sample to its last, 0 for none */
 static uint32_t audio_channel_of(uint32_t side, uint32_t length)
 {
-    for (uint32_t c = 1; c <= 8; c++) {
+    for (uint32_t c = 1; c <= NEW; c++) {
         uint32_t t = 0;
         while (t < length && heard[2 * t + side] == level(c, t))
             t++;
@@ -260,15 +298,16 @@ static int sides(uint32_t length, int files, char **file)
     return 0;
 }
 
-/* strides FILE...: the four stereo files that ffmpeg reads of 720/50 */
-static int strides(int files, char **file)
+/* strides REPLACED FILE...: the four stereo files that ffmpeg reads of 720/50, with one audio channel replaced, or 0 for none */
+static int strides(uint32_t replaced, int files, char **file)
 {
     struct tally tally = {0};
     for (int i = 0; i < files; i++) {
         size_t length = load(file[i]);
         for (size_t at = 0; at < length; at++) {
             uint32_t audio_channel = 2 * (uint32_t)i + 1 + at % 2, number = (uint32_t)(at / 2), t = number % 1920;
-            weigh(&tally, heard[at], level(audio_channel, number), demuxed(audio_channel, number - t, t));
+            uint32_t source = audio_channel == replaced ? NEW : audio_channel;
+            weigh(&tally, heard[at], level(source, number), demuxed(source, number - t, t));
         }
     }
     print_tally(tally);
@@ -350,12 +389,14 @@ int main(int words, char **word)
         return find(first);
     if (!strcmp(job, "mend") && words == 3)
         return mend(first);
+    if (!strcmp(job, "replace") && words == 5)
+        return replace(first, second, (uint32_t)atoi(word[4]));
     if (!strcmp(job, "listen") && words == 4)
         return listen(first, second);
     if (!strcmp(job, "sides") && words > 3)
         return sides(first, words - 3, word + 3);
-    if (!strcmp(job, "strides") && words == 6)
-        return strides(4, word + 2);
+    if (!strcmp(job, "strides") && words == 7)
+        return strides(first, 4, word + 3);
     if (!strcmp(job, "own") && words == 6)
         return own(4, word + 2);
     if (!strcmp(job, "carry") && words == 3)
