@@ -103,7 +103,7 @@ replaced_in_mended() {
     job mend "$1" <"made$1" | job replace "$1" 3 0 >mended
     heard mended
     expect "made by ffmpeg, mended, audio channel 3 replaced, ${names[$1]}" '1 2 9 4' "$(job sides "$2" mended.1 mended.2)" \
-        "what ffmpeg reads of the two pairs that it was given, all $((4 * $2)) samples equal but for the new ones"
+        "the two pairs that ffmpeg was given, with the new sound in its place, all $((4 * $2)) samples equal"
 }
 replaced_in_mended 0 8008
 replaced_in_mended 1 9600
