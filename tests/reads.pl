@@ -1,6 +1,7 @@
 #!/usr/bin/perl
 # reads.pl: prints the lines that the test program try_reads must print. It runs from the repository's top.
-# Written from document 01 alone, with demand 3 for what salvage calls lost, and not from the library: a second reader and salvage.
+# Written from document 01 alone, with demand 3 for what salvage calls lost, and not from the library: a second reader and salvage, and
+# a second hand that puts in new samples.
 # The places of samples and of macroblocks are document 01's closed formulas; the frames that are read come from tests/written.pl,
 # which has the Recommendation's loops. Of the test program it reads the script, as data: what is changed and what is asked.
 use strict;
@@ -201,14 +202,16 @@ sub as_count {
     return $view->{counts}{ $pc1 & 0x3F } // 0;        # only the system's own counts
 }
 
+# 1, 2, 3: a system, a length or a channel that is none
+sub channel_refusal {
+    my ($view, $c) = @_;
+    return refusal($view) || ($c < 1 || $c > 8 ? 3 : 0);
+}
+
 # The number and the count; 24 an AS of the channel breaks the rules, 25 they differ in count or in mode
-sub read_audio {
-    my ($view, $c, $room) = @_;
-    my $number = refusal($view);
-    return ($number, 0) if $number;
-    return (3, 0) if $c < 1 || $c > 8;
-    return (4, 0) if $room != $view->{positions};
-    $number = checked($view);
+sub judge_audio {
+    my ($view, $c) = @_;
+    my $number = checked($view);
     return ($number, 0) if $number;
     return (23, 0) if invalid($view, 5);
     my @counts = map { as_count($view, $c, @$_) } sequences_of($view, $c);
@@ -217,6 +220,14 @@ sub read_audio {
     return (25, 0) if grep { $_ != $counts[0] } @counts;
     return (25, 0) if grep { $_ != $modes[0] } @modes;
     return (0, $counts[0]);
+}
+
+sub read_audio {
+    my ($view, $c, $room) = @_;
+    my $number = channel_refusal($view, $c);
+    return ($number, 0) if $number;
+    return (4, 0) if $room != $view->{positions};
+    return judge_audio($view, $c);
 }
 
 # Every AS of the channel says 1111
@@ -250,6 +261,35 @@ sub samples {
     my ($view, $c, $count) = @_;
     return ($lost) x $count if is_unrecorded($view, $c);
     return map { sample($view, place_of_sample($view->{n}, $c, $_)) } 0 .. $count - 1;
+}
+
+# ---- new samples
+
+# 29 not as many as the count, 31 a number that is no sample, 33 a channel that was not recorded
+sub replace_number {
+    my ($view, $c, @numbers) = @_;
+    my $number = channel_refusal($view, $c);
+    return $number if $number;
+    ($number, my $count) = judge_audio($view, $c);
+    return $number if $number;
+    return 29 if @numbers != $count;
+    return 31 if grep { $_ < -32768 || $_ > $lost } @numbers;
+    return is_unrecorded($view, $c) ? 33 : 0;
+}
+
+# Lost is 8000h, a level of -32,768 is 8001h, any other level is in two's complement
+sub word {
+    my ($number) = @_;
+    return $number == $lost ? 0x8000 : $number == -32768 ? 0x8001 : $number & 0xFFFF;
+}
+
+# Each in its place in the frame
+sub replace {
+    my ($view, $c, @numbers) = @_;
+    for my $t (0 .. $#numbers) {
+        my ($h, $q, $a, $byte) = place_of_sample($view->{n}, $c, $t);
+        substr $frame, start($view->{n}, $h, $q, place_of_a($a)) + $byte, 2, pack 'n', word($numbers[$t]);
+    }
 }
 
 # ---- the macroblock read
@@ -485,13 +525,21 @@ sub write_frame {
     out('frame', $k, $count, 0);
 }
 
+# So many numbers of the whole range, the least level first and last
+sub known_numbers {
+    my ($n) = @_;
+    my @x = map { ($_ * 2731 + 7) % 65537 - 32768 } 0 .. $n - 1;
+    @x[0, 1, -1] = (-32768, $lost, -32768) if $n > 1;
+    return @x;
+}
+
 # What written.pl puts in: the sound, as it is read; a level of -32,768 is written 8001h
 sub sound {
     my ($count) = @_;
-    my @x = map { ($_ * 2731 + 7) % 65537 - 32768 } 0 .. 8 * $count - 1;
-    @x[0, 1, -1] = (-32768, $lost, -32768);
-    return map { $_ == -32768 ? -32767 : $_ } @x;
+    return as_read(known_numbers(8 * $count));
 }
+
+sub as_read { map { $_ == -32768 ? -32767 : $_ } @_ }
 
 # And the bytes of a macroblock
 sub picture {
@@ -509,6 +557,20 @@ sub try_audio {
     my @given = is_unrecorded($view, $c) ? ($lost) x $count : @sound[ ($c - 1) * $count .. $c * $count - 1 ];
     die "reads.pl: audio channel $c is not the one put in\n" if "@got" ne "@given";
     out('audio', $c, $number, $count, sums(raised(@got)), $lent - $count, raised(@got[0, 1, -1]));
+}
+
+# The answer, and the checksum of the frame
+sub try_new {
+    my ($name, $i, $k, $size, $c, $n, $none) = @_;
+    my $view    = view($k, $size);
+    my @numbers = known_numbers($n);
+    $numbers[$none] = 32769 if $none < $n;
+    my $number = replace_number($view, $c, @numbers);
+    if (!$number) {
+        replace($view, $c, @numbers);
+        @sound[ ($c - 1) * $n .. $c * $n - 1 ] = as_read(@numbers);
+    }
+    out($name, $i, $number, sums(unpack 'C*', substr $frame, 0, $size));
 }
 
 sub try_macroblock {
@@ -569,6 +631,7 @@ sub run_line {
     elsif ($letter eq 's') { @last = try_salvage(@f) }
     elsif ($letter eq 'v') { try_survey(@f) }
     elsif ($letter eq 'c') { try_channel(@f, @last) }
+    elsif ($letter eq 'n') { try_new($name, @f) }
     elsif ($letter eq 'k') { put($f[6] // 0, @f[0 .. 3], chr($f[5]) x $f[4]) }
     elsif ($letter eq 'o') { put(0, @f[3 .. 5], 0, substr $frame, start(10, @f[0 .. 2]), 80) }
     elsif ($letter eq 'r') { rubbish() }

@@ -1,6 +1,6 @@
 #!/bin/bash
-# The library's strict reads and salvage beside tests/reads.pl, which is written from the paper alone: each line that the test program
-# try_reads has stored is the one that reads.pl prints. A difference fails.
+# The library's strict reads, salvage and new audio channels beside tests/reads.pl, which is written from the paper alone: each line
+# that the test program try_reads has stored is the one that reads.pl prints. A difference fails.
 set -u
 cd "$(dirname "$0")/.."
 work=$(mktemp -d)

@@ -1,8 +1,13 @@
 // Bytes of the frame that are changed. A block is named by DIF channel, sequence and place.
 ghost use Prim.Native.Nat.{_<_};
 use crate::asks;
+use try_kit::lines;
 use try_kit::script::Fields;
-use try_kit::values::byte;
+use try_kit::values;
+use values::byte;
+use values::size;
+use values::some_bytes;
+use values::some_numbers;
 
 // How many sequences stand before this one.
 fn sequence_of(system: u32, h: u32, q: u32) -> u32 {
@@ -76,4 +81,24 @@ pub fn over(f: Fields, frame: &mut [u8]) {
     let from = offset(0, f.a, f.b, f.c, 0);
     let to = offset(0, f.d, f.e, f.f, 0);
     copy_block(frame, from, to);
+}
+
+// New samples for an audio channel, in so many bytes of the frame: the answer.
+fn put_samples(system: u32, frame: &mut [u8], n: usize, c: u32, samples: &[i32]) -> u32 {
+    if n <= frame.len() {
+        return replacer::replace_audio(system, &mut frame[0..n], c, samples);
+    }
+    99
+}
+
+// Replaces an audio channel: number of the line, system, bytes of the frame, audio channel, how many numbers, which of them is no
+// sample. The answer, and a checksum of those bytes.
+pub fn replaced(f: Fields, frame: &mut [u8], numbers: &mut [i32]) {
+    let n = size(f.e);
+    values::known_numbers(numbers, n);
+    values::set_number(numbers, size(f.f), 32769);
+    lines::field(f.a);
+    lines::field(put_samples(f.b, frame, size(f.c), f.d, some_numbers(numbers, n)));
+    values::print_sum(some_bytes(frame, size(f.c)));
+    lines::end();
 }

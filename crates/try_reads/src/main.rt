@@ -1,7 +1,7 @@
-// Runs a script of strict reads and salvages on written, damaged and bad input. A line of a try has, after its name and number, the
-// numbers that check_frame, read_audio, macroblock_number and read_time answer, then the count, how many of the 15,553 lent numbers
-// still hold their mark, the length of the macroblock's part and the eight bytes of time code and binary group. Numbers of lent lists
-// are printed 32,768 up: 0 is -32,768, 1 is -32,767 and 65,536 is lost.
+// Runs a script of strict reads, salvages and new audio channels on written, damaged and bad input. A line of a try has, after its name
+// and number, the numbers that check_frame, read_audio, macroblock_number and read_time answer, then the count, how many of the 15,553
+// lent numbers still hold their mark, the length of the macroblock's part and the eight bytes of time code and binary group. Numbers of
+// lent lists are printed 32,768 up: 0 is -32,768, 1 is -32,767 and 65,536 is lost.
 mod asks;
 mod changes;
 
@@ -28,6 +28,7 @@ fn step(l: Line, numbers: &mut [i32], macroblocks: &[u8], frame: &mut [u8]) {
         b'p' => changes::patched(f, frame, numbers),
         b'k' => changes::keep(f, frame),
         b'o' => changes::over(f, frame),
+        b'n' => changes::replaced(f, frame, numbers),
         b'r' => values::fill_rubbish(frame),
         _ => asks::ask(letter, f, frame, numbers),
     }
