@@ -1,37 +1,29 @@
-/* Puts a new commentary, a ramp, in audio channel 3 of a 1080/60/I frame, here a silent one that it writes first. */
+/* Puts a new commentary, a ramp with one sample lost, into audio channel 3 of a 1080/60/I frame on standard input, and reads it back.
+   The shipped frame has lost a block of that very channel: the call takes no such frame until the block has its ID again. */
 #include <stdio.h>
+#include <string.h>
 #include "dv100.h"
 
-static uint8_t frame[480000], macroblocks[77 * 5400];
-static int32_t silence[8 * 1602], commentary[1620], samples[1620];
-static const uint8_t time_code[4], binary_group[4];
-
-static int refused(const char *call, unsigned number)
-{
-    printf("%s refuses with %u\n", call, number);
-    return 1;
-}
+static uint8_t frame[480001];
+static int32_t commentary[1602], samples[1620];
 
 int main(void)
 {
-    uint32_t number = dv100_write(0, 1602, silence, 8 * 1602, macroblocks, 77 * 5400, time_code, 4, binary_group, 4, frame, 480000);
-    if (number != 0)
-        return refused("dv100_write", number);
-    struct dv100_audio before = dv100_read_audio(0, frame, 480000, 3, samples, 1620);
-    if (before.number != 0)
-        return refused("dv100_read_audio", before.number);
-    for (unsigned i = 0; i < before.count; i++)
-        commentary[i] = 40 * (int32_t)i - 32000;
-    number = dv100_replace_audio(0, frame, 480000, 3, commentary, before.count);
-    if (number != 0)
-        return refused("dv100_replace_audio", number);
-    struct dv100_audio after = dv100_read_audio(0, frame, 480000, 3, samples, 1620);
-    unsigned equal = 0;
-    for (unsigned i = 0; i < after.count; i++)
-        if (samples[i] == commentary[i])
-            equal++;
-    printf("%u of %u samples of audio channel 3 are the new ones\n", equal, after.count);
-    number = dv100_replace_audio(0, frame, 480000, 3, commentary, before.count - 1);
-    printf("one sample less is refused with %u\n", number);
-    return 0;
+    static const uint8_t id[3] = {0x7F, 0x3F, 0x01}; /* A1 of DIF channel 1, sequence 3, which stands at place 22 */
+    size_t length = fread(frame, 1, sizeof frame, stdin);
+    struct dv100_audio answer;
+    unsigned same = 0;
+
+    for (int t = 0; t < 1602; t++)
+        commentary[t] = 40 * t - 32000;
+    commentary[7] = DV100_LOST;
+    printf("as it came: %u\n", dv100_replace_audio(0, frame, length, 3, commentary, 1602));
+    memcpy(frame + ((10 * 1 + 3) * 150 + 22) * 80, id, 3);
+    printf("one sample fewer: %u\n", dv100_replace_audio(0, frame, length, 3, commentary, 1601));
+    printf("all of them: %u\n", dv100_replace_audio(0, frame, length, 3, commentary, 1602));
+    answer = dv100_read_audio(0, frame, length, 3, samples, 1620);
+    for (unsigned t = 0; t < answer.count; t++)
+        same += samples[t] == commentary[t];
+    printf("read back: %u, %u of %u samples are the new ones\n", answer.number, same, answer.count);
+    return answer.number != 0;
 }
