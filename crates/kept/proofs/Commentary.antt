@@ -19,11 +19,11 @@ use Rattle.promises.specs.Contents.{Contents}
 use Rattle.promises.specs.Form.{HasForm}
 use Rattle.promises.specs.Demand2.{LaidOut}
 use Rattle.promises.specs.Demand3.{faultFor}
-use Rattle.promises.specs.Refusals.{FirstFault, SomeOutside, countStored, modeStored, salvageTable, timeTable, writeTable, replaceTable}
+use Rattle.promises.specs.Refusals.{FirstFault, SomeOutside, countStored, modeStored, salvageTable, timeTable, writeTable, audioTable, listTable, replaceTable}
 use Rattle.promises.specs.Unrecorded.{SameButAudio}
 use Rattle.promises.specs.Commentary.{HeardAgain, SalvagedAgain, SoundBytes, FrameHolds, Changed}
 use Rattle.promises.proofs.Tables.{row-past, row-on, none-outside, some-outside}
-use Rattle.promises.proofs.Apart.{SameAs, audio-gives, sound-gives, count-same, mode-same, some-sequence, fault-same, listed-same, all-named}
+use Rattle.promises.proofs.Apart.{replace-gives, then-gives, SameAs, SameWords, audio-gives, sound-gives, count-same, mode-same, some-sequence, fault-same, listed-same, all-named}
 use Rattle.promises.proofs.One.{listed-one}
 use Rattle.promises.proofs.Commentary.{exchanged-apart, exchanged-as, word-new, word-else}
 use Rattle.promises.proofs.LaidAgain.{form-mode, form-count, laid-again}
@@ -49,10 +49,9 @@ use Rattle.rules_replaces.proofs.Replacing.{by-replaced, stored-count, replaces
 use Rattle.rules_replaces.proofs.Headlines as replacing
 use Rattle.rules_writes.specs.Write.{Wrote}
 use Rattle.rules_writes.proofs.Headlines as writes
-use Rattle.kept.specs.ReadsElse.{ReadsElse}
 use Rattle.kept.proofs.Together.{read-together, audio-beside, audio-out}
 use Rattle.kept.proofs.WritingBack.{writes-back, frame-decided}
-use Rattle.kept.proofs.Alike.{first-rows, given, same-audio, same-check, same-survey, same-macroblock, same-macroblock-at, same-time}
+use Rattle.kept.proofs.Alike.{first-rows, given, same-audio}
 
 -- ---- a sample in range, written and read
 
@@ -112,18 +111,10 @@ module _ {k : ℕ} {f : List ℕ} {c : ℕ} {samples : List ℤ} {g : List ℕ} 
         size = out .size;
       }
 
-  -- ---- everything else
+  -- ---- read_audio of the others
 
-  else-same : ReadsElse k f c g
-  else-same = record {
-    check = same-check apart;
-    audio = λ d ne.
-        same-audio apart (as-same d) (λ d1 d8. record { word = λ u hu. word-else (replaces call) y known (takes-above t) (takes-below t) few d u d1 d8 hu (λ e. absurd (ne e)) });
-    macroblock = same-macroblock apart;
-    macroblock-at = same-macroblock-at apart;
-    time = same-time apart;
-    survey = same-survey apart;
-  }
+  words-same : (d : ℕ) → d ≢ c → 0 < d → d < 9 → SameWords k f g d
+  words-same d ne d1 d8 = record { word = λ u hu. word-else (replaces call) y known (takes-above t) (takes-below t) few d u d1 d8 hu (λ e. absurd (ne e)) }
 
   -- ---- salvage
 
@@ -195,8 +186,14 @@ module _ {k : ℕ} {f : List ℕ} {c : ℕ} {samples : List ℤ} {g : List ℕ} 
   pub heard-again : {list heard : List ℤ} {o : AudioAnswer} → length list ≡ positions k → AudioRead k g c list o heard → HeardAgain samples list o heard
   heard-again room read = by-replaced call (λ y known t. heard-new call y known t room read)
 
-  pub reads-else : ReadsElse k f c g
-  reads-else = by-replaced call (else-same call)
+  -- it differs from the frame before behind the IDs of audio blocks alone
+  pub audio-alone : SameButAudio k f g
+  audio-alone = by-replaced call (apart call)
+
+  pub others-again : (d : ℕ) → d ≢ c → {list heard heard′ : List ℤ} {o o′ : AudioAnswer} → AudioRead k f d list o heard → AudioRead k g d list o′ heard′
+      → (o ≡ o′) × (heard ≡ heard′)
+  others-again d ne read read′ =
+      by-replaced call (λ y known t. same-audio (apart call y known t) (as-same call y known t d) (words-same call y known t d ne) read read′)
 
   pub salvaged-again : {buffer before after : List ℤ} {list list₁ list₂ : List ℕ} {r r′ : Survey} → length buffer ≡ 8 * positions k
       → Salvaged k f buffer list r before list₁ → Salvaged k g buffer list r′ after list₂ → (r ≡ r′) × (list₁ ≡ list₂) × SalvagedAgain k c samples before after
@@ -220,6 +217,15 @@ module _ {k : ℕ} {f : List ℕ} {c : ℕ} {samples : List ℤ} {g : List ℕ} 
       made-new call y known t (held-laid form bytes holds) (holds .sounds) changed
       (held-taken (known-below k y known) form bytes holds timed (length frame) (same ∙ form .size)) wrote)
 
+-- a frame in the form is what the writer makes of what it holds
+pub form-ours : {k : ℕ} {f : List ℕ} → HasForm k f → SoundBytes k f → {l : Contents} → FrameHolds k f l → {o : TimeAnswer} → TimeRead k f o → o .number ≡ 0
+    → {frame w : List ℕ} {r : ℕ} → length frame ≡ length f → Wrote k l frame r w → (r ≡ 0) × (w ≡ f)
+form-ours {k} {f} form bytes {l} holds {o} read z {frame} {w} {r} same wrote =
+    let timed : timeTable k f 0 = subst (timeTable k f) z (reads.time-answers k f .numbered o read) in
+    let table = held-taken (first-rows timed .0) form bytes holds timed (length frame) (same ∙ form .size) in
+    let zero : r ≡ 0 = sym (writes.write-answers k l frame .no-other (r, w) wrote 0 table) in
+    (zero, sym (frame-decided (subst (λ (m : ℕ). Wrote k l frame m w) zero wrote) (held-laid form bytes holds)))
+
 -- ---- what is taken: any frame of which the channel is read, not marked, and as many samples as it has
 
 pub taken-when : {k : ℕ} {f : List ℕ} {c : ℕ} {list heard : List ℤ} {o : AudioAnswer} → AudioRead k f c list o heard → o .number ≡ 0 → modeStored k f c ≢ 0xF
@@ -240,6 +246,21 @@ taken-when {k} {f} {c} {list} read z unmarked {samples} many inside call =
       levels = by-bool (allInRange samples) (λ e. e) (λ e. absurd (inside (some-outside samples e)));
       recorded = ne-eqb _ _ (λ m. unmarked (sym (mode-first k y known f c) ∙ m));
     }))
+
+-- and what an audio read refuses, but for the length of its list, is refused so
+pub refused-when : {k : ℕ} {f : List ℕ} {c : ℕ} {list heard : List ℤ} {o : AudioAnswer} → AudioRead k f c list o heard → o .number ≢ 0 → o .number ≢ 4
+    → {samples : List ℤ} {r : ℕ} {g : List ℕ} → Replaced k f c samples r g → r ≡ o .number
+refused-when {k} {f} {c} {list} {heard} {o} read some four {samples} {r} {g} call =
+    sym (replacing.replace-answers k f c samples .no-other (r, g) call (o .number)
+    (replace-gives k f c (length list) samples (o .number) some four .too (reads.audio-answers k f c list .numbered (o, heard) read)))
+
+-- and where it is read, what the list and the mark are refused for
+pub refused-then : {k : ℕ} {f : List ℕ} {c : ℕ} {list heard : List ℤ} {o : AudioAnswer} → AudioRead k f c list o heard → o .number ≡ 0
+    → {samples : List ℤ} {r : ℕ} {g : List ℕ} → Replaced k f c samples r g → listTable (o .count) samples (modeStored k f c) r
+refused-then {k} {f} {c} {list} {heard} {o} read z {samples} {r} {g} call =
+    subst (λ (count : ℕ). listTable count samples (modeStored k f c) r) (sym (audio-out read .count z))
+    (then-gives k f c (length list) samples r (subst (audioTable k f c (length list)) z (reads.audio-answers k f c list .numbered (o, heard) read))
+    (replacing.replace-answers k f c samples .numbered (r, g) call))
 
 -- a frame that our writer made, with as many samples as it was given
 pub ours-taken : {k : ℕ} {l : Contents} {frame f : List ℕ} → Wrote k l frame 0 f → {c : ℕ} → 0 < c → c < 9 → {samples : List ℤ} {r : ℕ} {g : List ℕ}

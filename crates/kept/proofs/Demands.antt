@@ -42,9 +42,8 @@ use Rattle.rules_reads.specs.Strict.{StrictlyRead}
 use Rattle.promises.specs.Demand3.{SampleSalvaged, Listed, Salvages}
 use Rattle.promises.specs.Unrecorded.{Marks, every, ComesBackLost, SameButAudio, SameButAaux}
 use Rattle.promises.specs.Form.{HasForm}
-use Rattle.promises.specs.Refusals.{SomeOutside, modeStored}
+use Rattle.promises.specs.Refusals.{SomeOutside, modeStored, listTable}
 use Rattle.promises.specs.Commentary.{Exchanged, HeardAgain, SalvagedAgain, SoundBytes, FrameHolds, Changed}
-use Rattle.kept.specs.ReadsElse.{ReadsElse}
 use Rattle.promises.proofs.Unrecorded.{marks-aaux}
 use Rattle.kept.proofs.Deciding.{ids-decided, views-decided, macroblocks-decided, reads-decided}
 use Rattle.kept.proofs.WritingBack.{writes-back, strict-decided, frame-decided}
@@ -54,7 +53,8 @@ use Rattle.kept.proofs.Worthless.{tone-taken, one-for-two, frame-for-tw
 use Rattle.kept.proofs.Alike.{same-salvage, same-check, same-survey, same-macroblock, same-macroblock-at, same-time}
 use Rattle.kept.proofs.Unrecorded.{comes-back-lost, others-same, handed-out, some-marked}
 use Rattle.kept.proofs.Held.{held-one}
-use Rattle.kept.proofs.Commentary.{heard-again, reads-else, salvaged-again, made-again, form-made, taken-when, ours-taken, ours-form, silenced, left-alone}
+use Rattle.kept.proofs.Commentary.{heard-again, audio-alone, others-again, salvaged-again, made-again, form-made, form-ours}
+use Rattle.kept.proofs.Commentary.{taken-when, refused-when, refused-then, ours-taken, ours-form, silenced, left-alone}
 use Rattle.rules_format.proofs.Headlines as format
 use Rattle.rules_picture.proofs.Headlines as picture
 use Rattle.rules_packs.proofs.Headlines as packs
@@ -256,8 +256,26 @@ module _ {k : ℕ} {f : List ℕ} {c : ℕ} {samples : List ℤ} {g : List ℕ} 
   pub commentary-heard : {list heard : List ℤ} {o : AudioAnswer} → length list ≡ positions k → AudioRead k g c list o heard → HeardAgain samples list o heard
   commentary-heard = heard-again call
 
-  pub commentary-else : ReadsElse k f c g
-  commentary-else = reads-else call
+  pub commentary-others : (d : ℕ) → d ≢ c → {list heard heard′ : List ℤ} {o o′ : AudioAnswer} → AudioRead k f d list o heard → AudioRead k g d list o′ heard′
+      → (o ≡ o′) × (heard ≡ heard′)
+  commentary-others = others-again call
+
+  pub commentary-check : {r r′ : ℕ} → Checked k f r → Checked k g r′ → r ≡ r′
+  commentary-check = same-check (audio-alone call)
+
+  pub commentary-macroblock : {b number number′ : ℕ} {part part′ : List ℕ} → MacroblockNumbered k f b number → MacroblockRead k f b part
+      → MacroblockNumbered k g b number′ → MacroblockRead k g b part′ → (number ≡ number′) × (part ≡ part′)
+  commentary-macroblock = same-macroblock (audio-alone call)
+
+  pub commentary-macroblock-at : {b : ℕ} {r r′ : Part} → MacroblockLies k f b r → MacroblockLies k g b r′ → r ≡ r′
+  commentary-macroblock-at = same-macroblock-at (audio-alone call)
+
+  pub commentary-time : {r r′ : TimeAnswer} → TimeRead k f r → TimeRead k g r′ → r ≡ r′
+  commentary-time = same-time (audio-alone call)
+
+  pub commentary-survey : {list list₁ list₂ : List ℕ} {r r′ : Survey} → FrameSurveyed k f list r list₁ → FrameSurveyed k g list r′ list₂
+      → (r ≡ r′) × (list₁ ≡ list₂)
+  commentary-survey = same-survey (audio-alone call)
 
   pub commentary-salvage : {buffer before after : List ℤ} {list list₁ list₂ : List ℕ} {r r′ : Survey} → length buffer ≡ 8 * positions k
       → Salvaged k f buffer list r before list₁ → Salvaged k g buffer list r′ after list₂ → (r ≡ r′) × (list₁ ≡ list₂) × SalvagedAgain k c samples before after
@@ -278,6 +296,16 @@ module _ {k : ℕ} {f : List ℕ} {c : ℕ} {samples : List ℤ} {g : List ℕ} 
   pub not-silenced : (t : ℕ) → t < length samples → getD samples t (pos 0) ≡ pos 32768 → soundWord (sequences k) g c t ≡ 0 → ⊥
   not-silenced = silenced call
 
+-- "Refusals: those of the audio read, but no 4 for the sample list"
+pub commentary-refused : {k : ℕ} {f : List ℕ} {c : ℕ} {list heard : List ℤ} {o : AudioAnswer} → AudioRead k f c list o heard → o .number ≢ 0 → o .number ≢ 4
+    → {samples : List ℤ} {r : ℕ} {g : List ℕ} → Replaced k f c samples r g → r ≡ o .number
+commentary-refused = refused-when
+
+-- "then new 29 ..; then 31; then new 33"
+pub commentary-then : {k : ℕ} {f : List ℕ} {c : ℕ} {list heard : List ℤ} {o : AudioAnswer} → AudioRead k f c list o heard → o .number ≡ 0
+    → {samples : List ℤ} {r : ℕ} {g : List ℕ} → Replaced k f c samples r g → listTable (o .count) samples (modeStored k f c) r
+commentary-then = refused-then
+
 -- a frame of which the channel is read, and not marked, is taken, with as many samples as it has
 pub commentary-taken : {k : ℕ} {f : List ℕ} {c : ℕ} {list heard : List ℤ} {o : AudioAnswer} → AudioRead k f c list o heard → o .number ≡ 0
     → modeStored k f c ≢ 0xF → {samples : List ℤ} {r : ℕ} {g : List ℕ} → length samples ≡ o .count → (SomeOutside samples → ⊥)
@@ -293,6 +321,11 @@ commentary-ours-taken = ours-taken
 pub commentary-ours-form : {k : ℕ} {l : Contents} {frame f : List ℕ} → Wrote k l frame 0 f
     → HasForm k f × SoundBytes k f × ((o : TimeAnswer) → TimeRead k f o → o .number ≡ 0)
 commentary-ours-form = ours-form
+
+-- any frame in the form is what the writer makes of what it holds
+pub form-written : {k : ℕ} {f : List ℕ} → HasForm k f → SoundBytes k f → {l : Contents} → FrameHolds k f l → {o : TimeAnswer} → TimeRead k f o → o .number ≡ 0
+    → {frame w : List ℕ} {r : ℕ} → length frame ≡ length f → Wrote k l frame r w → (r ≡ 0) × (w ≡ f)
+form-written = form-ours
 
 -- a call that leaves the frame as it was
 pub not-left-alone : {k : ℕ} {f : List ℕ} {c : ℕ} {samples samples′ : List ℤ} → Replaced k f c samples 0 f → Replaced k f c samples′ 0 f

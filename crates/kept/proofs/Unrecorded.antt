@@ -36,7 +36,7 @@ comes-back-lost {k} {f} {c} {g} {samples} {heard} {heard′} {r} {r′} m read z
     let count : r′ .count ≡ r .count = out .count zero ∙ marked-count m some ∙ sym (audio-out read .count z) in
     record {
       answer = λ i. record { number = zero i; count = count i };
-      lost = λ t h. out .unrecorded zero (marked-mode m some) t (omega (arith, h, count));
+      sample = λ t h. out .unrecorded zero (marked-mode m some) t (omega (arith, h, count));
       rest = rw count at (out .rest zero);
       size = out .size;
     }
@@ -65,6 +65,6 @@ handed-out k below count own c t level c1 c8 ht hl {frame} {f} {g} {samples} {he
     let back = writes-back wrote .reads-back c samples 0 _ c1 c8 room first (audio-beside (one .meets)) in
     let lost = comes-back-lost m (one .meets) (ap (λ (a : AudioAnswer). a .number) (back .audio)) read in
     let all : t < one .outcome .0 .count = omega (arith, ht, ap (λ (a : AudioAnswer). a .count) (back .audio)) in
-    let same : pos 32768 ≡ pos level = sym (lost .lost t all) ∙ e in
+    let same : pos 32768 ≡ pos level = sym (lost .sample t all) ∙ e in
     let q : _≡_ {A = ℕ} 32768 level = cc in
     omega (arith, q, hl))

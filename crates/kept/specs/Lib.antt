@@ -1,2 +1,1 @@
 pub mod EveryCall
-pub mod ReadsElse

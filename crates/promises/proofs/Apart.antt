@@ -25,11 +25,12 @@ use Rattle.paper.specs.Paper.{slotPlace}
 use Rattle.paper.specs.Bytes.{compared}
 use Rattle.promises.specs.Refusals.{Table, _if_, _else_, none, FirstFault, Some, WrongDsf, VsDisagrees, Flagged, vsByte, SomeInHalf, asByte, AsBreaks}
 use Rattle.promises.specs.Refusals.{ssybAt, WrongFirst, Differs, DifferInHalf, AsDiffer, checked, sounded, audioTable}
-use Rattle.promises.specs.Refusals.{surveyTable, salvageTable, checkTable, macroblockTable, timeTable}
+use Rattle.promises.specs.Refusals.{surveyTable, salvageTable, checkTable, macroblockTable, timeTable, listTable, replaceTable, countStored, modeStored}
 use Rattle.promises.specs.Refusals.WrongFirst.{wrongTimeHeader, wrongDigit, wrongGroupHeader}
 use Rattle.promises.specs.Refusals.Differs.{otherTime, otherGroup}
 use Rattle.promises.specs.Demand3.{faultFor, PositionOut, SalvageOut, Listed}
 use Rattle.promises.specs.Unrecorded.{SameButAudio, SameButAaux}
+use Rattle.promises.proofs.Tables.{row-past, row-skip}
 use Rattle.rules_format.specs.Systems.{systemOf}
 use Rattle.rules_format.proofs.Blocks.{before-channel}
 use Rattle.rules_format.proofs.Systems.{sequences-cases}
@@ -410,3 +411,29 @@ module _ (k : ℕ) (f : List ℕ) (j b v : ℕ) (audio : sectionAt (j % 150) ≡
     blocks = audio-free (omega arith);
     words = λ j′ b′ hj eight hb′. elsewhere (omega arith) j′ b′ hb′ (λ same z. omega (arith, z, eight, hb));
   }
+
+-- ---- replaceTable beside audioTable: "those of the audio read, but no 4 for the sample list"
+
+pub replace-gives : (k : ℕ) (f : List ℕ) (c room : ℕ) (samples : List ℤ) (r : ℕ) → r ≢ 0 → r ≢ 4 → Gives r (audioTable k f c room) (replaceTable k f c samples)
+replace-gives k f c room samples r some four =
+    let rest : Gives r (checked k f (sounded k f c none)) (checked k f (sounded k f c (listTable (countStored k f c) samples (modeStored k f c)))) =
+    row-gives (row-gives (row-gives (row-gives (row-gives (row-gives (record { too = λ z. absurd (some z) })))))) in
+    row-gives (row-gives (row-gives (record { too = ⊎-elim (λ h. absurd (four (h .0))) (λ p. rest .too (p .1)) })))
+
+-- where the one gives 0, the rows of the list are left of the other
+pub then-gives : (k : ℕ) (f : List ℕ) (c room : ℕ) (samples : List ℤ) (r : ℕ) → audioTable k f c room 0 → replaceTable k f c samples r
+    → listTable (countStored k f c) samples (modeStored k f c) r
+then-gives k f c room samples r read given =
+    let one = row-past (λ e. omega (arith, e)) read in
+    let two = row-past (λ e. omega (arith, e)) (one .1) in
+    let three = row-past (λ e. omega (arith, e)) (two .1) in
+    let four = row-past (λ e. omega (arith, e)) (three .1) in
+    let clean = ⊎-elim (λ a. absurd (a .some refl)) (λ p. p) (four .1) in
+    let dsf = row-past (λ e. omega (arith, e)) (clean .1) in
+    let vs = row-past (λ e. omega (arith, e)) (dsf .1) in
+    let flag = row-past (λ e. omega (arith, e)) (vs .1) in
+    let source = row-past (λ e. omega (arith, e)) (flag .1) in
+    let agree = row-past (λ e. omega (arith, e)) (source .1) in
+    let checks = row-skip (three .0) (row-skip (two .0) (row-skip (one .0) given)) in
+    let sounds = row-skip (vs .0) (row-skip (dsf .0) (⊎-elim (λ a. absurd (clean .0 r a)) (λ p. p .1) checks)) in
+    row-skip (agree .0) (row-skip (source .0) (row-skip (flag .0) sounds))

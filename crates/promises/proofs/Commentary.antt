@@ -27,7 +27,7 @@ use Rattle.rules_format.proofs.Paper.{columns}
 use Rattle.rules_format.proofs.Numbers.{word-within}
 use Rattle.rules_format.proofs.Starts.{start-one}
 use Rattle.promises.proofs.Apart.{SameAs}
-use Rattle.promises.proofs.One.{lists-one, channels-one}
+use Rattle.promises.proofs.One.{channels-one}
 
 -- ---- one answer
 
@@ -36,20 +36,13 @@ exchanged-one {k} {f} {c} {samples} {g} {g′} m m′ =
     let at : ℕ → ℕ = soundStart (sequences k) c in
     ext-getD 0 g g′ (m .size ∙ sym (m′ .size)) (λ i b.
     by-below (λ (t : ℕ). eqb i (soundStart (sequences k) c t)) (countStored k f c)
-    (λ t h e. rw (eqb-true i (soundStart (sequences k) c t) e) (m .high t h ∙ sym (m′ .high t h)))
+    (λ t h e. let h′ : t < length samples = omega (arith, h, m .count) in rw (eqb-true i (soundStart (sequences k) c t) e) (m .high t h′ ∙ sym (m′ .high t h′)))
     (λ high.
     by-below (λ (t : ℕ). eqb i (soundStart (sequences k) c t + 1)) (countStored k f c)
-    (λ t h e. rw (eqb-true i (soundStart (sequences k) c t + 1) e) (m .low t h ∙ sym (m′ .low t h)))
+    (λ t h e. let h′ : t < length samples = omega (arith, h, m .count) in rw (eqb-true i (soundStart (sequences k) c t + 1) e) (m .low t h′ ∙ sym (m′ .low t h′)))
     (λ low.
     let apart : Elsewhere (sequences k) c (countStored k f c) i = λ t h. (eqb-false i (at t) (high t h), eqb-false i (at t + 1) (low t h)) in
     m .other i apart ∙ sym (m′ .other i apart))))
-
-pub heard-again-one : {samples before : List ℤ} {o o′ : AudioAnswer} {after after′ : List ℤ} → HeardAgain samples before o after → HeardAgain samples before o′ after′
-    → (o ≡ o′) × (after ≡ after′)
-heard-again-one {samples} m m′ = (
-  m .answer ∙ sym (m′ .answer),
-  lists-one (length samples) (m .size ∙ sym (m′ .size)) (λ t h. m .sample t h ∙ sym (m′ .sample t h)) (m .rest ∙ sym (m′ .rest)),
-)
 
 -- a position below the count of its channel, or any other
 pub salvaged-again-one : {k c : ℕ} {samples before after after′ : List ℤ} → SalvagedAgain k c samples before after → SalvagedAgain k c samples before after′ → after ≡ after′
@@ -115,7 +108,7 @@ module _ {k : ℕ} {f : List ℕ} {c : ℕ} {samples : List ℤ} {g : List ℕ} 
   -- ---- the words
 
   pub word-new : (t : ℕ) → t < countStored k f c → soundWord n g c t ≡ wordBy (getD samples t (pos 0))
-  word-new t h = ap₂ (λ (a b : ℕ). a * 256 + b) (x .high t h) (x .low t h) ∙ omega arith
+  word-new t h = let h′ : t < length samples = omega (arith, h, x .count) in ap₂ (λ (a b : ℕ). a * 256 + b) (x .high t h′) (x .low t h′) ∙ omega arith
 
   -- of another position
   module _ (d t : ℕ) (d1 : 0 < d) (d8 : d < 9) (ht : t < positions k) (other : d ≡ c → countStored k f c ≤ t) where

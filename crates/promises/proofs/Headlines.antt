@@ -10,19 +10,19 @@ use Rattle.base.specs.Pick.{pick}
 use Rattle.base.specs.Calls.{ExactlyOne}
 use Rattle.paper.specs.Paper.{sequences, sectionAt, soundChannel, soundFirst, soundIndex, modeSaid, back, macroblocks, streamFault}
 use Rattle.promises.specs.Contents.{Contents}
-use Rattle.promises.specs.Demand2.{Strict, ReadsBack, IdOut, ViewOut, MacroblockOut, ReadOut, GoesThrough, LaidOut}
+use Rattle.promises.specs.Demand2.{Strict, ReadsBack, IdOut, ViewOut, MacroblockOut, ReadOut, GoesThrough, AudioOut, LaidOut}
 use Rattle.paper.specs.declared.Survey.{Survey}
 use Rattle.paper.specs.declared.AudioAnswer.{AudioAnswer}
 use Rattle.promises.specs.Demand3.{Listed, SalvageOut, Salvages, SampleSalvaged}
-use Rattle.promises.specs.Unrecorded.{Marks, ComesBackLost, SameButAudio, SameButAaux}
-use Rattle.promises.specs.Commentary.{Exchanged, HeardAgain, SalvagedAgain, Changed}
+use Rattle.promises.specs.Unrecorded.{Marks, SameButAudio, SameButAaux}
+use Rattle.promises.specs.Commentary.{Exchanged, SalvagedAgain, Changed}
 use Rattle.promises.proofs.Apart.{audio-free, aaux-free}
-use Rattle.promises.proofs.Commentary.{exchanged-one, heard-again-one, salvaged-again-one}
+use Rattle.promises.proofs.Commentary.{exchanged-one, salvaged-again-one}
 use Rattle.promises.proofs.Holding.{changed-exactly}
 use Rattle.promises.proofs.Unrecorded.{marks-one, marks-bits, already-marked}
 use Rattle.rules_format.proofs.Paper.{known-system}
 use Rattle.promises.proofs.One.{listed-one, ids-one, views-one, macroblocks-one, reads-one, reads-back-one, salvages-one, salvage-out-one}
-use Rattle.promises.proofs.One.{lost-one, untouched-one, coasting}
+use Rattle.promises.proofs.One.{audio-out-one, untouched-one, coasting}
 use Rattle.paper.specs.declared.Place.{Place}
 use Rattle.paper.specs.declared.IdAnswer.{IdAnswer}
 use Rattle.paper.specs.declared.IdValues.{IdValues}
@@ -66,6 +66,11 @@ pub one-macroblock : {k : ℕ} {f : List ℕ} {b : ℕ} {r r′ : Part} → b < 
     → MacroblockOut k f b r′ → r ≡ r′
 one-macroblock = macroblocks-one
 
+-- what comes back lost, and what is heard again
+pub one-audio : {count : ℕ} {said : ℕ → ℤ} {before after after′ : List ℤ} {o o′ : AudioAnswer} → AudioOut count said before o after
+    → AudioOut count said before o′ after′ → (o ≡ o′) × (after ≡ after′)
+one-audio = audio-out-one
+
 pub one-read : {k : ℕ} {f : List ℕ} {c : ℕ} {samples : List ℤ} {b : ℕ} {o o′ : Strict} → b < macroblocks k → GoesThrough o → GoesThrough o′
     → ReadOut k f c samples b o → ReadOut k f c samples b o′ → o ≡ o′
 one-read = reads-one
@@ -93,24 +98,16 @@ pub marked-before : (k : ℕ) (f : List ℕ) (c : ℕ) (which : ℕ → Bool)
     → ((r : ℕ) → r < sequences k / 2 → which r ≡ true → modeSaid (sequences k) f (soundChannel c) (soundFirst (sequences k) c + r) ≡ 0xF) → Marks k f c which f
 marked-before = already-marked
 
-pub one-lost : {a o o′ : AudioAnswer} {samples heard heard′ : List ℤ} → ComesBackLost a samples o heard → ComesBackLost a samples o′ heard′
-    → (o ≡ o′) × (heard ≡ heard′)
-one-lost = lost-one
-
 pub any-audio : (k : ℕ) (f : List ℕ) (j b v : ℕ) → sectionAt (j % 150) ≡ 3 → 3 ≤ b → b < 80 → SameButAudio k f (set f (j * 80 + b) v)
 any-audio = audio-free
 
 pub any-aaux : (k : ℕ) (f : List ℕ) (j b v : ℕ) → sectionAt (j % 150) ≡ 3 → 3 ≤ b → b < 8 → SameButAaux k f (set f (j * 80 + b) v)
 any-aaux = aaux-free
 
--- ---- a new commentary channel: the frame after, what is read and salvaged of it, and the changed contents
+-- ---- a new commentary channel: the frame after, what is salvaged of it, and the changed contents
 
 pub one-exchange : {k : ℕ} {f : List ℕ} {c : ℕ} {samples : List ℤ} {g g′ : List ℕ} → Exchanged k f c samples g → Exchanged k f c samples g′ → g ≡ g′
 one-exchange = exchanged-one
-
-pub one-heard-again : {samples before : List ℤ} {o o′ : AudioAnswer} {after after′ : List ℤ} → HeardAgain samples before o after
-    → HeardAgain samples before o′ after′ → (o ≡ o′) × (after ≡ after′)
-one-heard-again = heard-again-one
 
 pub one-salvaged-again : {k c : ℕ} {samples before after after′ : List ℤ} → SalvagedAgain k c samples before after
     → SalvagedAgain k c samples before after′ → after ≡ after′

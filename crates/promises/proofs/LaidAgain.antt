@@ -6,7 +6,7 @@ use Prim.Native.Nat.{ℕ, _+_, _*_, _/_, _%_, _≤_, _<_}
 use native.Mathlib.Omega.{arith}
 use lib.Dec.{ltb}
 use lib.IntN.{ℤ}
-use lib.ListN.{getD}
+use lib.ListN.{length, getD}
 use borrow.Author.Tests.{eq-eqb}
 use Rattle.base.specs.Pick.{pick}
 use Rattle.base.proofs.Cases.{by-eq}
@@ -138,7 +138,7 @@ laid-again {k} {l} {l′} {f} {c} {samples} {g} x y known c1 c8 few laid changed
     let n : ℕ = sequences k in
     let count : countStored k f c ≡ l .count = count-is x y known c1 c8 few form ∙ laid .count in
     let in-count : (t : ℕ) → t < l′ .count → t < l .count = λ t h. omega (arith, h, changed .count) in
-    let stored : (t : ℕ) → t < l .count → t < countStored k f c = λ t h. omega (arith, h, count) in
+    let stored : (t : ℕ) → t < l .count → t < length samples = λ t h. omega (arith, h, count, x .count) in
     let position : (t : ℕ) → t < l .count → t < positions k = λ t h. omega (arith, h, count, few) in
     record {
       form = form-again x y known c1 c8 few form;

@@ -10,12 +10,11 @@ use Rattle.base.specs.Run.{run}
 use Rattle.base.proofs.Cases.{by-lt, by-eq}
 use Rattle.promises.specs.Contents.{Contents}
 use Rattle.paper.specs.Paper.{sequences, records, positions, macroblocks, streamFault, soundChannel, soundFirst, soundIndex, modeSaid, back}
-use Rattle.promises.specs.Demand2.{Strict, ReadsBack, IdOut, ViewOut, MacroblockOut, ReadOut, GoesThrough}
+use Rattle.promises.specs.Demand2.{Strict, ReadsBack, IdOut, ViewOut, MacroblockOut, ReadOut, GoesThrough, AudioOut}
 use lib.Dec.{ltb}
 use Rattle.base.specs.Pick.{pick}
 use Rattle.paper.specs.declared.Survey.{Survey}
 use Rattle.paper.specs.declared.AudioAnswer.{AudioAnswer}
-use Rattle.promises.specs.Unrecorded.{ComesBackLost}
 use Rattle.promises.specs.Demand3.{Listed, faultFor, SalvageOut, Salvages, SampleSalvaged}
 use native.Mathlib.Nat.{div-add-mod', mod-lt, div-lt-iff-lt-mul, not-suc-le-zero}
 use borrow.Author.Tests.{ne-eqb}
@@ -103,13 +102,13 @@ reads-one {k} {f} {c} {samples} {b} {o} {o′} hb z z′ m m′ =
       };
     }
 
--- ---- ComesBackLost
+-- ---- AudioOut
 
-pub lost-one : {a o o′ : AudioAnswer} {samples heard heard′ : List ℤ} → ComesBackLost a samples o heard → ComesBackLost a samples o′ heard′
-    → (o ≡ o′) × (heard ≡ heard′)
-lost-one {a} m m′ = (
+pub audio-out-one : {count : ℕ} {said : ℕ → ℤ} {before after after′ : List ℤ} {o o′ : AudioAnswer} → AudioOut count said before o after
+    → AudioOut count said before o′ after′ → (o ≡ o′) × (after ≡ after′)
+audio-out-one {count} m m′ = (
   m .answer ∙ sym (m′ .answer),
-  lists-one (a .count) (m .size ∙ sym (m′ .size)) (λ t h. m .lost t h ∙ sym (m′ .lost t h)) (m .rest ∙ sym (m′ .rest)),
+  lists-one count (m .size ∙ sym (m′ .size)) (λ t h. m .sample t h ∙ sym (m′ .sample t h)) (m .rest ∙ sym (m′ .rest)),
 )
 
 -- ---- Listed

@@ -46,6 +46,10 @@ row-past {number} some = ⊎-elim (λ h. absurd (some (sym (h .0)))) (λ p. ((λ
 pub row-on : {number : ℕ} {Holds Rest : Type 0} → (Holds → ⊥) → Rest → ((0 ≡ number) × Holds) ⊎ (((s : ℕ) → (s ≡ number) × Holds → ⊥) × Rest)
 row-on none rest = inr ((λ s h. none (h .1)), rest)
 
+-- a row that does not hold is passed over
+pub row-skip : {number r : ℕ} {Holds Rest : Type 0} → (Holds → ⊥) → ((r ≡ number) × Holds) ⊎ (((s : ℕ) → (s ≡ number) × Holds → ⊥) × Rest) → Rest
+row-skip none = ⊎-elim (λ h. absurd (none (h .1))) (λ p. p .1)
+
 -- ---- a row of a list of tests
 
 -- what it is given for holds exactly where the test does

@@ -10,7 +10,7 @@ use Rattle.paper.specs.declared.AudioAnswer.{AudioAnswer}
 use Rattle.paper.specs.declared.Carried.the-variants.{Macroblock}
 use Rattle.paper.specs.Paper.{sequences, positions, macroblocks, bytesAt, soundStart, soundWord, sampleBy, wordBy, back, countSaid, slotPlace, carried}
 use Rattle.promises.specs.Contents.{Contents}
-use Rattle.promises.specs.Demand2.{given}
+use Rattle.promises.specs.Demand2.{given, AudioOut}
 use Rattle.promises.specs.Refusals.{countStored}
 
 -- ---- the bytes
@@ -24,19 +24,16 @@ pub record Exchanged (k : ℕ) (f : List ℕ) (c : ℕ) (samples : List ℤ) (g 
   pub count : length samples ≡ countStored k f c
   pub size : length g ≡ length f
   -- "they hold the new samples as the writer codes them", high byte first
-  pub high : (t : ℕ) → t < countStored k f c → getD g (soundStart (sequences k) c t) 0 ≡ wordBy (getD samples t (pos 0)) / 256
-  pub low : (t : ℕ) → t < countStored k f c → getD g (soundStart (sequences k) c t + 1) 0 ≡ wordBy (getD samples t (pos 0)) % 256
+  pub high : (t : ℕ) → t < length samples → getD g (soundStart (sequences k) c t) 0 ≡ wordBy (getD samples t (pos 0)) / 256
+  pub low : (t : ℕ) → t < length samples → getD g (soundStart (sequences k) c t + 1) 0 ≡ wordBy (getD samples t (pos 0)) % 256
   -- "Only the bytes of that channel's samples below the count may change": the tail's neither
   pub other : (i : ℕ) → Elsewhere (sequences k) c (countStored k f c) i → getD g i 0 ≡ getD f i 0
 
--- ---- the channel reads back: what an audio read of g into the list `before` answers and leaves
+-- ---- the channel reads back: an audio read of g answers o and leaves `after` of the list `before`
 
-pub record HeardAgain (samples before : List ℤ) (o : AudioAnswer) (after : List ℤ) : Type 0 where
-  pub answer : o ≡ record { number = 0; count = length samples }
-  -- "a level of -32,768 comes back as -32,767"
-  pub sample : (t : ℕ) → t < length samples → getD after t (pos 0) ≡ back (getD samples t (pos 0))
-  pub rest : drop (length samples) after ≡ drop (length samples) before
-  pub size : length after ≡ length before
+-- "a level of -32,768 comes back as -32,767"
+abbrev pub HeardAgain : List ℤ → List ℤ → AudioAnswer → List ℤ → Type 0
+HeardAgain samples before o after = AudioOut (length samples) (λ (t : ℕ). back (getD samples t (pos 0))) before o after
 
 -- ---- salvage of f leaves `before`, of g `after`: the new samples, and every other position as it was
 

@@ -19,6 +19,7 @@ use Rattle.rules_format.specs.Ids.{idValues}
 use Rattle.promises.specs.Contents.{Contents}
 use Rattle.paper.specs.Paper.{sequences, positions, macroblocks, start, byteAt, bytesAt, channelBy, soundChannel, soundFirst, soundStart, soundWord, sampleBy}
 use Rattle.paper.specs.Paper.{wordBy, back, countSaid, modeSaid, slotPlace, carried}
+use Rattle.promises.specs.Refusals.{countStored, modeStored}
 use Rattle.promises.specs.Form.{HasForm}
 use Rattle.paper.specs.Bytes.{firstAnswered}
 
@@ -60,11 +61,11 @@ pub record Strict : Type 0 where
 
 pub record ReadOut (k : ℕ) (f : List ℕ) (c : ℕ) (samples : List ℤ) (b : ℕ) (o : Strict) : Type 0 where
   -- "packs, the place of each audio sample": of a channel that is not marked what stands there
-  pub count : o .audio .number ≡ 0 → o .audio .count ≡ countSaid (sequences k) f (soundChannel c) (soundFirst (sequences k) c)
-  pub sample : o .audio .number ≡ 0 → modeSaid (sequences k) f (soundChannel c) (soundFirst (sequences k) c) ≢ 0xF → (t : ℕ) → t < o .audio .count
+  pub count : o .audio .number ≡ 0 → o .audio .count ≡ countStored k f c
+  pub sample : o .audio .number ≡ 0 → modeStored k f c ≢ 0xF → (t : ℕ) → t < o .audio .count
       → getD (o .samples) t (pos 0) ≡ sampleBy (soundWord (sequences k) f c t)
   -- of one that is marked "with audio mode 1111" it "hands out every sample up to it as lost", the count
-  pub unrecorded : o .audio .number ≡ 0 → modeSaid (sequences k) f (soundChannel c) (soundFirst (sequences k) c) ≡ 0xF → (t : ℕ) → t < o .audio .count
+  pub unrecorded : o .audio .number ≡ 0 → modeStored k f c ≡ 0xF → (t : ℕ) → t < o .audio .count
       → getD (o .samples) t (pos 0) ≡ pos 32768
   pub rest : o .audio .number ≡ 0 → drop (o .audio .count) (o .samples) ≡ drop (o .audio .count) samples
   pub size : length (o .samples) ≡ length samples
@@ -74,6 +75,13 @@ pub record ReadOut (k : ℕ) (f : List ℕ) (c : ℕ) (samples : List ℤ) (b : 
   -- SSYB 3 and 4 of DIF channel 0, sequence 0, in SC0: their packs stand from bytes 30 and 38 on
   pub time : o .time .number ≡ 0 → o .time .time ≡ firstAnswered k (byteAt (sequences k) f 0 0 1 31) ∷ bytesAt (sequences k) f 0 0 1 32 3
   pub group : o .time .number ≡ 0 → o .time .group ≡ bytesAt (sequences k) f 0 0 1 39 4
+
+-- an audio read that answers o and leaves `after` of the list `before`: so many samples, each as it is said, and the entries behind them untouched
+pub record AudioOut (count : ℕ) (said : ℕ → ℤ) (before : List ℤ) (o : AudioAnswer) (after : List ℤ) : Type 0 where
+  pub answer : o ≡ record { number = 0; count = count }
+  pub sample : (t : ℕ) → t < count → getD after t (pos 0) ≡ said t
+  pub rest : drop count after ≡ drop count before
+  pub size : length after ≡ length before
 
 -- all of them go through
 pub record GoesThrough (o : Strict) : Type 0 where

@@ -193,18 +193,18 @@ countStored k f c = countSaid (sequences k) f (soundChannel c) (soundFirst (sequ
 abbrev pub modeStored : ℕ → List ℕ → ℕ → ℕ
 modeStored k f c = modeSaid (sequences k) f (soundChannel c) (soundFirst (sequences k) c)
 
--- of replacing audio channel c "those of the audio read, but no 4 for the sample list; then new 29, a sample list whose length is not the stored count;
--- then 31; then new 33, a channel marked 1111"
+-- of new samples for an audio channel that says this count and this mode: "new 29, a sample list whose length is not the stored count; then 31; then new
+-- 33, a channel marked 1111"
+abbrev pub listTable : ℕ → List ℤ → ℕ → Table
+listTable count samples mode = 29 if (length samples ≢ count) else 31 if SomeOutside samples else 33 if (mode ≡ 0xF) else none
+
+-- of replacing audio channel c "those of the audio read, but no 4 for the sample list; then" these
 abbrev pub replaceTable : ℕ → List ℕ → ℕ → List ℤ → Table
 replaceTable k f c samples =
     1 if (3 < k)
     else 2 if (length f ≢ 48000 * sequences k)
     else 3 if ((c ≡ 0) ⊎ (8 < c))
-    else checked k f (sounded k f c (
-    29 if (length samples ≢ countStored k f c)
-    else 31 if SomeOutside samples
-    else 33 if (modeStored k f c ≡ 0xF)
-    else none))
+    else checked k f (sounded k f c (listTable (countStored k f c) samples (modeStored k f c)))
 
 -- "macroblock read 23"
 abbrev pub macroblockTable : ℕ → List ℕ → ℕ → Table

@@ -8,6 +8,7 @@ use Prim.Native.Nat.{ℕ, _+_, _*_, _/_, _%_, _≤_, _<_}
 use lib.IntN.{ℤ, pos}
 use lib.ListN.{length, getD, drop}
 use Rattle.paper.specs.declared.AudioAnswer.{AudioAnswer}
+use Rattle.promises.specs.Demand2.{AudioOut}
 use Rattle.paper.specs.Paper.{sequences, start, sectionAt, soundChannel, soundFirst, asPlace}
 
 -- ---- the mark
@@ -29,11 +30,8 @@ every r = true
 
 -- "An audio read of such a channel succeeds, gives the stored count and hands out every sample up to it as lost.": unmarked it answers a; marked it
 -- answers o and leaves samples′ in samples
-pub record ComesBackLost (a : AudioAnswer) (samples : List ℤ) (o : AudioAnswer) (samples′ : List ℤ) : Type 0 where
-  pub answer : o ≡ record { number = 0; count = a .count }
-  pub lost : (t : ℕ) → t < a .count → getD samples′ t (pos 0) ≡ pos 32768
-  pub rest : drop (a .count) samples′ ≡ drop (a .count) samples
-  pub size : length samples′ ≡ length samples
+abbrev pub ComesBackLost : AudioAnswer → List ℤ → AudioAnswer → List ℤ → Type 0
+ComesBackLost a samples o samples′ = AudioOut (a .count) (λ t. pos 32768) samples o samples′
 
 -- ---- what it does not touch
 

@@ -15,7 +15,7 @@ use Rattle.rules_format.specs.Systems.{systemOf, rowsIn, frameBytes}
 use Rattle.rules_reads.specs.Check.{checkRows}
 use Rattle.rules_reads.specs.Audio.{countFor, isMarked, isAudio, audioRows}
 use Rattle.rules_replaces.specs.Replace.{replaceRows, replaceNumber}
-use Rattle.promises.specs.Refusals.{_if_, _else_, none, SomeOutside, countStored, modeStored, replaceTable}
+use Rattle.promises.specs.Refusals.{none, countStored, modeStored, listTable, replaceTable}
 use Rattle.promises.proofs.Tables.{Exactly, exactly-none, row-exactly, row-differs, row-system, row-length, row-outside}
 use Rattle.rules_reads.proofs.GroundsAudio.{count-first, mode-first}
 use Rattle.rules_reads.proofs.Refusals.{checked-exactly, row-audio, sounded-exactly}
@@ -23,8 +23,7 @@ use Rattle.rules_reads.proofs.Refusals.{checked-exactly, row-audio, sounded-exa
 -- ---- 29, 31, 33
 
 rows-exactly : (k : ℕ) (y : System) → systemOf k ≡ Known y → (f : List ℕ) (c : ℕ) (samples : List ℤ)
-    → Exactly (29 if (length samples ≡ countStored k f c → ⊥) else 31 if SomeOutside samples else 33 if (modeStored k f c ≡ 0xF) else none)
-    (firstOf (replaceRows y f c samples))
+    → Exactly (listTable (countStored k f c) samples (modeStored k f c)) (firstOf (replaceRows y f c samples))
 unfolding replaceRows
 rows-exactly k y known f c samples =
     let mode = mode-first k y known f c in

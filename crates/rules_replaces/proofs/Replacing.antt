@@ -41,12 +41,11 @@ module _ (k : ℕ) (y : System) (known : systemOf k ≡ Known y) (f : List ℕ) 
       let c1 = takes-above t in
       let c8 = takes-below t in
       let few = takes-few t in
-      let below : (u : ℕ) → u < countStored k f c → u < length samples = λ u h. omega (arith, h, stored-count) in
       record {
         count = stored-count;
         size = replaced-long y c c1 c8 samples f (t .whole) few;
-        high = λ u h. rw (starts u) (replaced-does y c c1 c8 samples f (t .whole) few u (below u h) .0 ∙ ap (λ (w : ℕ). w / 256) (word u (below u h)));
-        low = λ u h. rw (starts u) (replaced-does y c c1 c8 samples f (t .whole) few u (below u h) .1 ∙ ap (λ (w : ℕ). w % 256) (word u (below u h)));
+        high = λ u h. rw (starts u) (replaced-does y c c1 c8 samples f (t .whole) few u h .0 ∙ ap (λ (w : ℕ). w / 256) (word u h));
+        low = λ u h. rw (starts u) (replaced-does y c c1 c8 samples f (t .whole) few u h .1 ∙ ap (λ (w : ℕ). w % 256) (word u h));
         other = λ i n.
             replaced-stays y c c1 c8 samples f (t .whole) few i (λ u h.
             let d = n u (omega (arith, h, stored-count)) in
