@@ -10,6 +10,7 @@ use Rattle.base.proofs.Cases.{by-lt, by-eq}
 use Rattle.paper.specs.declared.System.{System}
 use Rattle.paper.specs.declared.SystemNumber.the-variants.{Known}
 use Rattle.paper.specs.declared.Survey.{Survey}
+use Rattle.paper.specs.declared.Place.{Place}
 use Rattle.paper.specs.declared.Part.{Part}
 use Rattle.paper.specs.declared.AudioAnswer.{AudioAnswer}
 use Rattle.paper.specs.declared.TimeAnswer.{TimeAnswer}
@@ -17,14 +18,16 @@ use Rattle.paper.specs.Paper.{sequences, positions, soundChannel, soundFirst, s
 use Rattle.promises.specs.Refusals.{Table, _if_, _else_, audioTable, macroblockTable, timeTable}
 use Rattle.promises.specs.Demand1.{Answers}
 use Rattle.promises.specs.Unrecorded.{SameButAudio, SameButAaux}
-use Rattle.promises.proofs.Apart.{Gives, SameAs, SameWords, survey-gives, salvage-gives, check-gives, macroblock-gives, time-gives, audio-gives, sound-gives, count-same, mode-same}
+use Rattle.promises.proofs.Apart.{Gives, SameAs, SameWords, survey-gives, salvage-gives, check-gives, view-gives, macroblock-gives, time-gives, audio-gives, sound-gives, count-same, mode-same}
 use Rattle.promises.proofs.Apart.{some-sequence, low-section, low-same, bytes-same, slot-section, listed-same, salvage-out-same}
 use Rattle.promises.proofs.Tables.{row-past}
 use Rattle.promises.proofs.One.{lists-one, listed-one, salvage-out-one}
 use Rattle.rules_format.specs.Systems.{systemOf}
 use Rattle.rules_format.proofs.Paper.{columns, known-system}
 use Rattle.rules_surveys.specs.Survey.{FrameSurveyed}
+use Rattle.rules_surveys.specs.View.{ViewNumbered, ViewLies}
 use Rattle.rules_surveys.specs.Salvage.{Salvaged}
+use Rattle.rules_surveys.proofs.Calls.{view-number-one, view-one}
 use Rattle.rules_surveys.proofs.Headlines as surveys
 use Rattle.rules_reads.specs.Check.{Checked}
 use Rattle.rules_reads.specs.Audio.{audioNumber, AudioRead}
@@ -140,6 +143,20 @@ same-salvage {k} {f} {g} {samples} {samples₁} {samples₂} {list} {list₁} {l
     let heard = salvage-out-one (salvage-out-same s (surveys.salvages-out k a z)) (surveys.salvages-out k a′ z′) in
     λ i. (one .0 i, heard i, one .1 i)) in
     (ap (λ (o : Survey × List ℤ × List ℕ). o .0) e, ap (λ (o : Survey × List ℤ × List ℕ). o .1) e, ap (λ (o : Survey × List ℤ × List ℕ). o .2) e)
+
+-- a view of any block: its number, and where its part lies
+pub same-view : {k : ℕ} {f g : List ℕ} {h q : ℕ} {p : Place} {r r′ : ℕ} → SameButAudio k f g → ViewNumbered k f h q p r → ViewNumbered k g h q p r′ → r ≡ r′
+same-view {k} {f} {g} {h} {q} {p} {r} {r′} s a a′ =
+    let part = view-one k f h q p in
+    let part′ = view-one k g h q p in
+    surveys.view-answers k g h q p .no-other (r′, part′ .outcome) (a′, part′ .meets) r
+    (view-gives h q (p .0) s .too (surveys.view-answers k f h q p .numbered (r, part .outcome) (a, part .meets)))
+
+pub same-view-at : {k : ℕ} {f g : List ℕ} {h q : ℕ} {p : Place} {r r′ : Part} → SameButAudio k f g → ViewLies k f h q p r → ViewLies k g h q p r′ → r ≡ r′
+same-view-at {k} {f} {g} {h} {q} {p} s a a′ =
+    alike (surveys.view-at-answers k f h q p) (surveys.view-at-answers k g h q p) (view-gives h q (p .0) s) a a′ (λ z z′.
+    surveys.views-out (view-number-one k f h q p .meets) (view-one k f h q p .meets) a .lies z
+    ∙ sym (surveys.views-out (view-number-one k g h q p .meets) (view-one k g h q p .meets) a′ .lies z′))
 
 pub same-macroblock : {k : ℕ} {f g : List ℕ} {b number number′ : ℕ} {part part′ : List ℕ} → SameButAudio k f g → MacroblockNumbered k f b number → MacroblockRead k f b part
     → MacroblockNumbered k g b number′ → MacroblockRead k g b part′ → (number ≡ number′) × (part ≡ part′)

@@ -50,7 +50,7 @@ use Rattle.kept.proofs.WritingBack.{writes-back, strict-decided, frame-
 use Rattle.rules_surveys.proofs.Listing.{same-listed}
 use Rattle.kept.proofs.Salvaging.{salvages, salvage-decided}
 use Rattle.kept.proofs.Worthless.{tone-taken, one-for-two, frame-for-two, all-lost}
-use Rattle.kept.proofs.Alike.{same-salvage, same-check, same-survey, same-macroblock, same-macroblock-at, same-time}
+use Rattle.kept.proofs.Alike.{same-salvage, same-check, same-survey, same-view, same-view-at, same-macroblock, same-macroblock-at, same-time}
 use Rattle.kept.proofs.Unrecorded.{comes-back-lost, others-same, handed-out, some-marked}
 use Rattle.kept.proofs.Held.{held-one}
 use Rattle.kept.proofs.Commentary.{heard-again, audio-alone, others-again, salvaged-again, made-again, form-made, form-ours}
@@ -223,7 +223,7 @@ pub unrecorded-salvage : {k : ℕ} {f g : List ℕ} → SameButAaux k f g → {s
     → Salvaged k f samples list r samples₁ list₁ → Salvaged k g samples list r′ samples₂ list₂ → (r ≡ r′) × (samples₁ ≡ samples₂) × (list₁ ≡ list₂)
 unrecorded-salvage same = same-salvage same
 
--- and frame check, survey, macroblock and time code reads do not look behind the ID of an audio block
+-- and frame check, survey, macroblock and time code reads, and the number and place of a block view, do not look behind the ID of an audio block
 module _ {k : ℕ} {f g : List ℕ} (same : SameButAudio k f g) where
   pub audio-apart-check : {r r′ : ℕ} → Checked k f r → Checked k g r′ → r ≡ r′
   audio-apart-check = same-check same
@@ -231,6 +231,12 @@ module _ {k : ℕ} {f g : List ℕ} (same : SameButAudio k f g) where
   pub audio-apart-survey : {list list₁ list₂ : List ℕ} {r r′ : Survey} → FrameSurveyed k f list r list₁ → FrameSurveyed k g list r′ list₂
       → (r ≡ r′) × (list₁ ≡ list₂)
   audio-apart-survey = same-survey same
+
+  pub audio-apart-view : {h q : ℕ} {p : Place} {r r′ : ℕ} → ViewNumbered k f h q p r → ViewNumbered k g h q p r′ → r ≡ r′
+  audio-apart-view = same-view same
+
+  pub audio-apart-view-at : {h q : ℕ} {p : Place} {r r′ : Part} → ViewLies k f h q p r → ViewLies k g h q p r′ → r ≡ r′
+  audio-apart-view-at = same-view-at same
 
   pub audio-apart-macroblock : {b number number′ : ℕ} {part part′ : List ℕ} → MacroblockNumbered k f b number → MacroblockRead k f b part
       → MacroblockNumbered k g b number′ → MacroblockRead k g b part′ → (number ≡ number′) × (part ≡ part′)
@@ -262,6 +268,12 @@ module _ {k : ℕ} {f : List ℕ} {c : ℕ} {samples : List ℤ} {g : List ℕ} 
 
   pub commentary-check : {r r′ : ℕ} → Checked k f r → Checked k g r′ → r ≡ r′
   commentary-check = same-check (audio-alone call)
+
+  pub commentary-view : {h q : ℕ} {p : Place} {r r′ : ℕ} → ViewNumbered k f h q p r → ViewNumbered k g h q p r′ → r ≡ r′
+  commentary-view = same-view (audio-alone call)
+
+  pub commentary-view-at : {h q : ℕ} {p : Place} {r r′ : Part} → ViewLies k f h q p r → ViewLies k g h q p r′ → r ≡ r′
+  commentary-view-at = same-view-at (audio-alone call)
 
   pub commentary-macroblock : {b number number′ : ℕ} {part part′ : List ℕ} → MacroblockNumbered k f b number → MacroblockRead k f b part
       → MacroblockNumbered k g b number′ → MacroblockRead k g b part′ → (number ≡ number′) × (part ≡ part′)

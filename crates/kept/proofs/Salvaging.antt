@@ -22,7 +22,6 @@ use Rattle.rules_format.specs.Reading.{soundBlock, soundNamed, readSample}
 use Rattle.rules_surveys.specs.Salvage.{salvageNumber, salvaged, Salvaged}
 use Rattle.promises.specs.Contents.{Contents}
 use Rattle.rules_writes.specs.Write.{writtenFrame, Wrote, Takes}
-use Rattle.paper.specs.Paper
 use Rattle.paper.specs.Paper.{positions}
 use Rattle.promises.specs.Demand2.{given}
 use Rattle.rules_format.proofs.Samples.{back-is, silence}

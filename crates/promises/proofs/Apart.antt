@@ -25,7 +25,7 @@ use Rattle.paper.specs.Paper.{slotPlace}
 use Rattle.paper.specs.Bytes.{compared}
 use Rattle.promises.specs.Refusals.{Table, _if_, _else_, none, FirstFault, Some, WrongDsf, VsDisagrees, Flagged, vsByte, SomeInHalf, asByte, AsBreaks}
 use Rattle.promises.specs.Refusals.{ssybAt, WrongFirst, Differs, DifferInHalf, AsDiffer, checked, sounded, audioTable}
-use Rattle.promises.specs.Refusals.{surveyTable, salvageTable, checkTable, macroblockTable, timeTable, listTable, replaceTable, countStored, modeStored}
+use Rattle.promises.specs.Refusals.{OwnFault, surveyTable, salvageTable, viewTable, checkTable, macroblockTable, timeTable, listTable, replaceTable, countStored, modeStored}
 use Rattle.promises.specs.Refusals.WrongFirst.{wrongTimeHeader, wrongDigit, wrongGroupHeader}
 use Rattle.promises.specs.Refusals.Differs.{otherTime, otherGroup}
 use Rattle.promises.specs.Demand3.{faultFor, PositionOut, SalvageOut, Listed}
@@ -237,6 +237,27 @@ salvage-gives s = record { too = λ e. rw (s .size) e }
 
 pub check-gives : {k : ℕ} {f g : List ℕ} {r : ℕ} → SameButAudio k f g → Gives r (checkTable k f) (checkTable k g)
 check-gives s = frame-gives s (checked-gives s none-gives)
+
+-- ---- viewTable: the block's own fault, by the bytes of its ID
+
+own-to : {k : ℕ} {f g : List ℕ} {h q p : ℕ} → SameButAudio k f g → h < 4 → q < sequences k → p < 150 → (r : ℕ) → OwnFault (sequences k) f h q p r
+    → OwnFault (sequences k) g h q p r
+own-to {k} {f} {g} {h} {q} {p} s hh hq hp r o =
+    let id : (b : ℕ) → b < 3 → byteAt (sequences k) f h q p b ≡ byteAt (sequences k) g h q p b =
+    λ b hb. sym (s .ids ((sequences k * h + q) * 150 + p) b (omega (arith, hp, hq, before-channel (sequences k) h hh)) hb) in
+    record { is = o .is ∙ rw (id 0 (omega arith), id 1 (omega arith), id 2 (omega arith)) refl; some = o .some }
+
+pub view-gives : {k : ℕ} {f g : List ℕ} (h q p : ℕ) {r : ℕ} → SameButAudio k f g → Gives r (viewTable k f h q p) (viewTable k g h q p)
+view-gives {k} {f} {g} h q p {r} s =
+    frame-gives s (record {
+      too = ⊎-elim (λ out. inl out) (λ past.
+          let hh : h < 4 = by-lt h 4 (λ l. l) (λ out. absurd (past .0 3 (refl, inl (inl out)))) in
+          let hq : q < sequences k = by-lt q (sequences k) (λ l. l) (λ out. absurd (past .0 3 (refl, inl (inr out)))) in
+          let hp : p < 150 = by-lt p 150 (λ l. l) (λ out. absurd (past .0 3 (refl, inr out))) in
+          let own : Gives r (OwnFault (sequences k) f h q p else none) (OwnFault (sequences k) g h q p else none) =
+          else-gives (record { to = own-to s hh hq hp; from = own-to (apart-sym s) hh hq hp }) none-gives in
+          inr (past .0, own .too (past .1)));
+    })
 
 -- ---- macroblockTable, timeTable
 

@@ -15,11 +15,10 @@ use Rattle.base.proofs.Cases.{by-lt, by-eq}
 use Rattle.base.proofs.Parts.{digit-one}
 use Rattle.paper.specs.declared.System.{System}
 use Rattle.paper.specs.declared.SystemNumber.the-variants.{Known}
-use Rattle.paper.specs.declared.AudioAnswer.{AudioAnswer}
 use Rattle.paper.specs.Paper.{sequences, positions, sectionAt, figure3, soundIndex, soundStart, soundWord, wordBy}
 use Rattle.promises.specs.Refusals.{countStored}
 use Rattle.promises.specs.Unrecorded.{SameButAudio}
-use Rattle.promises.specs.Commentary.{Elsewhere, Exchanged, HeardAgain, SalvagedAgain}
+use Rattle.promises.specs.Commentary.{Elsewhere, Exchanged, SalvagedAgain}
 use Rattle.rules_format.specs.Systems.{halfOf, systemOf}
 use Rattle.rules_format.proofs.Systems.{half-cases}
 use Rattle.rules_format.proofs.Sound.{audio-below}

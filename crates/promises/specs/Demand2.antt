@@ -17,8 +17,8 @@ use Rattle.paper.specs.declared.TimeAnswer.{TimeAnswer}
 use Rattle.paper.specs.declared.Carried.the-variants.{Macroblock}
 use Rattle.rules_format.specs.Ids.{idValues}
 use Rattle.promises.specs.Contents.{Contents}
-use Rattle.paper.specs.Paper.{sequences, positions, macroblocks, start, byteAt, bytesAt, channelBy, soundChannel, soundFirst, soundStart, soundWord, sampleBy}
-use Rattle.paper.specs.Paper.{wordBy, back, countSaid, modeSaid, slotPlace, carried}
+use Rattle.paper.specs.Paper.{sequences, positions, macroblocks, start, byteAt, bytesAt, channelBy, soundStart, soundWord, sampleBy}
+use Rattle.paper.specs.Paper.{wordBy, back, countSaid, slotPlace, carried}
 use Rattle.promises.specs.Refusals.{countStored, modeStored}
 use Rattle.promises.specs.Form.{HasForm}
 use Rattle.paper.specs.Bytes.{firstAnswered}

@@ -6,7 +6,7 @@ use mathlib.Core.List.{List}
 use mathlib.Core.Logic.{_≢_}
 use Prim.Native.Nat.{ℕ, _+_, _*_, _/_, _%_, _≤_, _<_}
 use lib.IntN.{ℤ, pos}
-use lib.ListN.{length, getD, drop}
+use lib.ListN.{length, getD}
 use Rattle.paper.specs.declared.AudioAnswer.{AudioAnswer}
 use Rattle.promises.specs.Demand2.{AudioOut}
 use Rattle.paper.specs.Paper.{sequences, start, sectionAt, soundChannel, soundFirst, asPlace}
