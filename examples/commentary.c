@@ -5,7 +5,7 @@
 #include "dv100.h"
 
 static uint8_t frame[480001];
-static int32_t commentary[1602], samples[1620];
+static int32_t commentary[1600], samples[1620];
 
 int main(void)
 {
@@ -14,13 +14,13 @@ int main(void)
     struct dv100_audio answer;
     unsigned same = 0;
 
-    for (int t = 0; t < 1602; t++)
+    for (int t = 0; t < 1600; t++)
         commentary[t] = 40 * t - 32000;
     commentary[7] = DV100_LOST;
-    printf("as it came: %u\n", dv100_replace_audio(0, frame, length, 3, commentary, 1602));
+    printf("as it came: %u\n", dv100_replace_audio(0, frame, length, 3, commentary, 1600));
     memcpy(frame + ((10 * 1 + 3) * 150 + 22) * 80, id, 3);
-    printf("one sample fewer: %u\n", dv100_replace_audio(0, frame, length, 3, commentary, 1601));
-    printf("all of them: %u\n", dv100_replace_audio(0, frame, length, 3, commentary, 1602));
+    printf("one sample fewer: %u\n", dv100_replace_audio(0, frame, length, 3, commentary, 1599));
+    printf("all of them: %u\n", dv100_replace_audio(0, frame, length, 3, commentary, 1600));
     answer = dv100_read_audio(0, frame, length, 3, samples, 1620);
     for (unsigned t = 0; t < answer.count; t++)
         same += samples[t] == commentary[t];
