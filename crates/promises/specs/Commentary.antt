@@ -26,7 +26,7 @@ pub record Exchanged (k : ℕ) (f : List ℕ) (c : ℕ) (samples : List ℤ) (g 
   -- "they hold the new samples as the writer codes them", high byte first
   pub high : (t : ℕ) → t < length samples → getD g (soundStart (sequences k) c t) 0 ≡ wordBy (getD samples t (pos 0)) / 256
   pub low : (t : ℕ) → t < length samples → getD g (soundStart (sequences k) c t + 1) 0 ≡ wordBy (getD samples t (pos 0)) % 256
-  -- "Only the bytes of that channel's samples below the count may change": the tail's neither
+  -- "Only the bytes of that channel's samples below the count may change": none of another channel, and none of the tail
   pub other : (i : ℕ) → Elsewhere (sequences k) c (countStored k f c) i → getD g i 0 ≡ getD f i 0
 
 -- ---- the channel reads back: an audio read of g answers o and leaves `after` of the list `before`
