@@ -127,7 +127,7 @@ all-named n f none zero h j l = absurd (not-suc-le-zero l)
 all-named n f none (suc m) h j l =
     let before = all-named n f none m (omega arith) in
     by-eq j m
-    (λ last. rw last (by-eq (streamFault n f m m) 0 (λ z. z) (λ d. absurd (none (streamFault n f m m) (record { j = m; within = h; before = before; is = refl; some = d })))))
+    (λ last. rw last (by-eq (streamFault n f m m) 0 (λ z. z) (λ d. absurd (none (streamFault n f m m) (record { j = m; within = h; before = λ i l. before i (omega arith); is = refl; some = d })))))
     (λ d. before j (omega (arith, d)))
 
 -- ---- checked: the rows of the frame check
@@ -244,7 +244,7 @@ own-to : {k : ℕ} {f g : List ℕ} {h q p : ℕ} → SameButAudio k f g → h <
     → OwnFault (sequences k) g h q p r
 own-to {k} {f} {g} {h} {q} {p} s hh hq hp r o =
     let id : (b : ℕ) → b < 3 → byteAt (sequences k) f h q p b ≡ byteAt (sequences k) g h q p b =
-    λ b hb. sym (s .ids ((sequences k * h + q) * 150 + p) b (omega (arith, hp, hq, before-channel (sequences k) h hh)) hb) in
+    λ b hb. sym (s .ids ((sequences k * h + q) * 150 + p) b (omega (arith, hp, hq, before-channel (sequences k) h hh)) (omega arith)) in
     record { is = o .is ∙ rw (id 0 (omega arith), id 1 (omega arith), id 2 (omega arith)) refl; some = o .some }
 
 pub view-gives : {k : ℕ} {f g : List ℕ} (h q p : ℕ) {r : ℕ} → SameButAudio k f g → Gives r (viewTable k f h q p) (viewTable k g h q p)
