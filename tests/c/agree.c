@@ -1241,17 +1241,21 @@ struct known_sample {
     unsigned n, dif_sequence, audio_dif_block, byte;
 };
 
-/* Whether the two bytes that change when sample n is written otherwise are those. */
-static int library_writes_sample_at(struct trial *trial, struct known_sample known)
+/* Silence, and a copy of its frame. */
+static const uint8_t *write_silence(struct trial *trial)
 {
-    static uint8_t before[MOST_FRAME];
-    size_t changed[2] = {0, 0};
-    unsigned changes = 0;
+    static uint8_t silence[MOST_FRAME];
     plain_content(trial);
     write_frame(trial);
-    memcpy(before, trial->frame, trial->frame_bytes);
-    trial->sound[known.n] = 0x1234;
-    write_frame(trial);
+    memcpy(silence, trial->frame, trial->frame_bytes);
+    return silence;
+}
+
+/* Whether the frame differs from another in those two bytes alone, where it has 1234h. */
+static int only_known_word_differs(const struct trial *trial, const uint8_t *before, struct known_sample known)
+{
+    size_t changed[2] = {0, 0};
+    unsigned changes = 0;
     for (size_t byte = 0; byte < trial->frame_bytes; byte++)
         if (trial->frame[byte] != before[byte] && changes++ < 2)
             changed[changes - 1] = byte;
@@ -1259,6 +1263,25 @@ static int library_writes_sample_at(struct trial *trial, struct known_sample kno
            trial->frame[changed[0]] == 0x12 && trial->frame[changed[1]] == 0x34 &&
            library_names(library_id_at(trial, changed[0]),
                          (struct paper_id){PAPER_AUDIO, 0, known.dif_sequence, known.audio_dif_block});
+}
+
+/* Whether they change when sample n is written otherwise. */
+static int library_writes_sample_at(struct trial *trial, struct known_sample known)
+{
+    const uint8_t *before = write_silence(trial);
+    trial->sound[known.n] = 0x1234;
+    write_frame(trial);
+    return only_known_word_differs(trial, before, known);
+}
+
+/* Whether they change when audio channel 1 is replaced by silence with another sample n. */
+static int library_replaces_sample_at(struct trial *trial, struct known_sample known)
+{
+    const uint8_t *before = write_silence(trial);
+    int32_t samples[PAPER_MOST_SAMPLES] = {0};
+    samples[known.n] = 0x1234;
+    uint32_t refusal = dv100_replace_audio(trial->system, trial->frame, trial->frame_bytes, 1, samples, trial->count);
+    return refusal == 0 && only_known_word_differs(trial, before, known);
 }
 
 /* Whether dv100_salvage answers a word put there at position n of audio channel 1, and zeros at all others. */
@@ -1284,8 +1307,9 @@ static void compare_known_sample(struct trial *trial, struct known_sample known)
     struct paper_sample_place at = trial->map->sample[1][known.n];
     int decoder = at.dif_channel == 0 && at.dif_sequence == known.dif_sequence &&
                   at.audio_dif_block == known.audio_dif_block && at.byte == known.byte;
-    int library =
-        library_reads_sample_at(trial, known) && (known.n >= trial->count || library_writes_sample_at(trial, known));
+    int library = library_reads_sample_at(trial, known) &&
+                  (known.n >= trial->count ||
+                   (library_writes_sample_at(trial, known) && library_replaces_sample_at(trial, known)));
     print_three_ways(decoder, library, "known %s, audio channel 1 sample %u: (%u,%u,%u)", trial->map->system->name, known.n,
                      known.dif_sequence, known.audio_dif_block, known.byte);
 }
@@ -1886,12 +1910,12 @@ static void compare_all_lists(struct trial *trial)
 }
 
 /* The audio channel that has its sound in the first sequence with damage; 1 where there is none. */
-static unsigned damaged_channel(const struct trial *trial)
+static unsigned damaged_audio_channel(const struct trial *trial)
 {
-    unsigned in_channel = trial->map->system->dif_sequences, at = 0, end = PAPER_DIF_CHANNELS * in_channel;
+    unsigned dif_sequences = trial->map->system->dif_sequences, at = 0, end = PAPER_DIF_CHANNELS * dif_sequences;
     while (at < end && memcmp(trial->frame + at * SEQUENCE_BYTES, undamaged + at * SEQUENCE_BYTES, SEQUENCE_BYTES) == 0)
         at++;
-    return at < end ? paper_audio_channel(trial->map->system, at / in_channel, at % in_channel) : 1;
+    return at < end ? paper_audio_channel(trial->map->system, at / dif_sequences, at % dif_sequences) : 1;
 }
 
 static unsigned long replacing_met[LAST_REFUSAL + 1];
@@ -1900,7 +1924,7 @@ static unsigned long replacing_met[LAST_REFUSAL + 1];
 static void replace_in_damaged(struct trial *trial, struct tally *tally)
 {
     struct list right = random_list(trial->count), wrong = random_list(trial->count + 1);
-    unsigned audio_channel = damaged_channel(trial);
+    unsigned audio_channel = damaged_audio_channel(trial);
     wrong.samples[below(wrong.length)] = 32769;
     compare_replacing(trial, tally, audio_channel, &wrong);
     compare_replacing(trial, tally, audio_channel, &right);

@@ -1053,7 +1053,7 @@ static uint32_t audio_channel_of(const struct scene *scene)
 }
 
 /* Whether there is such an audio channel, and a whole frame is lent. */
-static bool has_channel(const struct scene *scene, uint32_t audio_channel)
+static bool has_audio_channel(const struct scene *scene, uint32_t audio_channel)
 {
     return audio_channel >= 1 && audio_channel <= 8 && elements(FRAME) == frame_size(scene->made);
 }
@@ -1071,7 +1071,7 @@ static struct scene first_of(const struct scene *scene, uint32_t audio_channel)
 static uint32_t marks_in(const struct scene *scene, uint32_t audio_channel)
 {
     uint32_t half = facts[scene->made].sequences / 2, marks = 0;
-    if (!has_channel(scene, audio_channel))
+    if (!has_audio_channel(scene, audio_channel))
         return 0;
     struct scene here = first_of(scene, audio_channel);
     for (uint32_t left = half; left > 0; left--, here.sequence++)
@@ -1167,14 +1167,14 @@ static void try_salvage(const struct scene *scene)
 static uint32_t count_in(const struct scene *scene, uint32_t audio_channel)
 {
     const uint32_t *counts = facts[scene->made].counts;
-    if (!has_channel(scene, audio_channel))
+    if (!has_audio_channel(scene, audio_channel))
         return counts[0];
     struct scene first = first_of(scene, audio_channel);
     return counts[(as_of(&first)[1] & 0x3F) == 22];
 }
 
 /* Where the library has replaced an audio channel: every byte outside of its sequences is as it was. */
-static void only_channel_changed(const struct scene *scene, uint32_t audio_channel)
+static void only_audio_channel_changed(const struct scene *scene, uint32_t audio_channel)
 {
     struct buffer *frame = &buffers[FRAME];
     size_t size = facts[scene->system].sequences / 2 * SEQUENCE, from = frame->start + (audio_channel - 1) * size;
@@ -1194,7 +1194,7 @@ static bool ask_replace_audio(const struct scene *scene, uint32_t audio_channel)
     uint32_t plain = plain_replace_audio(scene->system, lend(FRAME, PLAIN), length, audio_channel, lend(SOUND, PLAIN), samples);
     bool success = answered(REPLACE_AUDIO, only_number, &library, &plain, 1);
     if (success) {
-        only_channel_changed(scene, audio_channel);
+        only_audio_channel_changed(scene, audio_channel);
         changed(FRAME, true);
     }
     return success;
@@ -1401,19 +1401,25 @@ static void sweep_written_time(const struct scene *scene)
 
 /* ---- Sweeps of replacing: a frame that is taken, and a list of samples for it */
 
-/* The same count in every AS, and noise in every word of sound, so that a word which has to stay shows. */
-static void give_words(struct scene *scene, uint8_t *bytes, uint32_t count)
+static void give_as(struct scene *scene, uint8_t *bytes, uint32_t count)
 {
-    change_as(scene, bytes, count == 1600 ? 20 : count == 1602 ? 22 : 24);
-    for (uint32_t place = 6; place < PLACES; place += 16)
-        fill_noise(bytes + place * BLOCK + 8, BLOCK - 8);
+    uint8_t *as = as_of(scene);
+    (void)bytes;
+    as[0] = 0x50;
+    as[1] = (uint8_t)((as[1] & 0x40) | (count == 1600 ? 20 : count == 1602 ? 22 : 24));
+    as[2] = (uint8_t)((as[2] & 0x10) | (in_first_half(scene) ? 0 : 1));
+    as[3] = (uint8_t)((as[3] & 0xC0) | (at_50_hz(scene->made) ? 0x23 : 0x03));
+    as[4] &= 0xC0;
 }
 
+/* Right wherever a frame is judged and noise everywhere else, so that a bit which has to stay shows. */
 static void make_replaceable(struct scene *scene, uint32_t count)
 {
     set_length(FRAME, frame_size(scene->made));
-    memcpy(content(FRAME), pool[scene->made][0], frame_size(scene->made));
-    everywhere(scene, give_words, count);
+    fill_noise(content(FRAME), frame_size(scene->made));
+    everywhere(scene, give_ids, 0);
+    everywhere(scene, give_packs, 0);
+    everywhere(scene, give_as, count);
     share(FRAME, frame_size(scene->made));
 }
 
@@ -1470,7 +1476,23 @@ static void sweep_marks(struct scene *scene, uint32_t marked, size_t count)
         replace_with(scene, audio_channel, audio_channel == marked ? 33 : 0);
 }
 
-/* One attempt: some sequence and place of the audio channel that is asked for, until a cause of a refusal is put in. */
+/* At 60 Hz, one audio channel with the other count: each wants as many samples as itself says. */
+static void sweep_counts(struct scene *scene, uint32_t recounted, size_t count)
+{
+    struct scene here = first_of(scene, recounted);
+    make_replaceable(scene, (uint32_t)count);
+    for (uint32_t left = facts[scene->made].sequences / 2; left > 0; left--, here.sequence++)
+        as_of(&here)[1] ^= 0x02;
+    share(FRAME, frame_size(scene->made));
+    for (uint32_t audio_channel = 1; audio_channel <= 8; audio_channel++) {
+        make_new_samples(1600);
+        replace_with(scene, audio_channel, (audio_channel == recounted) == (count == 1600) ? 29 : 0);
+        make_new_samples(1602);
+        replace_with(scene, audio_channel, (audio_channel == recounted) == (count == 1602) ? 29 : 0);
+    }
+}
+
+/* A replacement that is taken until a cause of a refusal is put in; the scene is some place of the audio channel. */
 struct attempt {
     struct scene scene;
     uint32_t audio_channel;
@@ -1486,7 +1508,7 @@ static void shorter_frame(struct attempt *attempt)
     lend_bytes(&buffers[FRAME], frame_size(attempt->scene.made) - 1);
 }
 
-static void other_channel(struct attempt *attempt)
+static void other_audio_channel(struct attempt *attempt)
 {
     attempt->audio_channel = 9 * below(2);
 }
@@ -1561,7 +1583,7 @@ static void no_sample(struct attempt *attempt)
     ((int32_t *)(void *)content(SOUND))[below((uint32_t)elements(SOUND))] = PICK(none);
 }
 
-static void marked_channel(struct attempt *attempt)
+static void marked_audio_channel(struct attempt *attempt)
 {
     set_modes(&attempt->scene, 0x0F);
 }
@@ -1571,10 +1593,10 @@ static const struct {
     uint32_t number;
     void (*put)(struct attempt *attempt);
 } causes[] = {
-    {1, other_system},   {2, shorter_frame},      {3, other_channel},   {11, reserved_section},
-    {12, other_section}, {13, other_dif_channel}, {14, other_sequence}, {15, other_block_number},
-    {21, other_rate},    {22, other_vs},          {23, invalid_sound},  {24, other_as},
-    {25, differing_as},  {29, other_length},      {31, no_sample},      {33, marked_channel},
+    {1, other_system},   {2, shorter_frame},      {3, other_audio_channel}, {11, reserved_section},
+    {12, other_section}, {13, other_dif_channel}, {14, other_sequence},     {15, other_block_number},
+    {21, other_rate},    {22, other_vs},          {23, invalid_sound},      {24, other_as},
+    {25, differing_as},  {29, other_length},      {31, no_sample},          {33, marked_audio_channel},
 };
 
 /* Two causes, or one twice: the lower number is given. It is put in last, since it may undo what the higher one stands on. */
@@ -1604,6 +1626,8 @@ static void sweep_replacing(uint32_t system)
             make_replaceable(&scene, facts[system].counts[which]);
             sweep_lists(&scene, audio_channel, facts[system].counts[which]);
             sweep_marks(&scene, audio_channel, facts[system].counts[which]);
+            if (!at_50_hz(system))
+                sweep_counts(&scene, audio_channel, facts[system].counts[which]);
         }
     for (size_t higher = 0; higher < COUNT(causes); higher++)
         for (size_t lower = 0; lower <= higher; lower++)

@@ -365,19 +365,19 @@ static struct source judge_audio(const struct system *own, const uint8_t *bytes,
     return differs ? (struct source){25, 0, false} : (struct source){0, first, unrecorded == 0};
 }
 
-/* The first byte of an audio channel's sequences: audio channels in their order are the halves of the DIF channels. */
-static size_t channel_start(const struct system *own, uint32_t audio_channel)
+/* The first byte of an audio channel's half: audio channels in their order are the halves of the DIF channels. */
+static size_t half_start(const struct system *own, uint32_t audio_channel)
 {
     return (size_t)(audio_channel - 1) * own->half * SEQUENCE;
 }
 
 /* What is asked of a whole frame and an audio channel in it: the frame check, TF1, AS. */
-static struct source judge_channel(const struct system *own, const uint8_t *frame, uint32_t audio_channel)
+static struct source judge_sound(const struct system *own, const uint8_t *frame, uint32_t audio_channel)
 {
     uint32_t number = judge_for(own, frame, TF1), mode = (audio_channel - 1) & 1;
     if (number)
         return (struct source){number, 0, false};
-    return judge_audio(own, frame + channel_start(own, audio_channel), mode * own->half, mode);
+    return judge_audio(own, frame + half_start(own, audio_channel), mode * own->half, mode);
 }
 
 struct dv100_audio plain_read_audio(uint32_t system, const uint8_t *frame, size_t frame_length, uint32_t audio_channel,
@@ -392,10 +392,10 @@ struct dv100_audio plain_read_audio(uint32_t system, const uint8_t *frame, size_
         return (struct dv100_audio){3, 0};
     if (samples_length != own->positions)
         return (struct dv100_audio){4, 0};
-    struct source source = judge_channel(own, frame, audio_channel);
+    struct source source = judge_sound(own, frame, audio_channel);
     if (source.number)
         return (struct dv100_audio){source.number, 0};
-    const uint8_t *bytes = frame + channel_start(own, audio_channel);
+    const uint8_t *bytes = frame + half_start(own, audio_channel);
     if (!source.recorded)
         for (uint32_t sample = 0; sample < source.count; sample++)
             samples[sample] = DV100_LOST;
@@ -787,7 +787,7 @@ uint32_t plain_replace_audio(uint32_t system, uint8_t *frame, size_t frame_lengt
         return 2;
     if (audio_channel < 1 || audio_channel > AUDIO_CHANNELS)
         return 3;
-    struct source source = judge_channel(own, frame, audio_channel);
+    struct source source = judge_sound(own, frame, audio_channel);
     if (source.number)
         return source.number;
     if (samples_length != source.count)
@@ -796,7 +796,7 @@ uint32_t plain_replace_audio(uint32_t system, uint8_t *frame, size_t frame_lengt
         return 31;
     if (!source.recorded)
         return 33;
-    uint8_t *bytes = frame + channel_start(own, audio_channel);
+    uint8_t *bytes = frame + half_start(own, audio_channel);
     for (uint32_t row = 0; row < own->half; row++, bytes += SEQUENCE)
         replace_sequence(own, bytes, row, samples, source.count);
     return 0;
