@@ -1,5 +1,5 @@
 /* Puts a new commentary, a ramp with one sample lost, into audio channel 3 of a 1080/60/I frame on standard input, and reads it back.
-   The shipped frame has lost a block of that very channel: the call takes no such frame until the block has its ID again. */
+   The shipped frame has lost a block of that very audio channel: the call takes no such frame until the block has its ID again. */
 #include <stdio.h>
 #include <string.h>
 #include "dv100.h"
