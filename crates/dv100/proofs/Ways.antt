@@ -3,6 +3,7 @@ use mathlib.Core.Path.{_≡_, refl, _∙_}
 use mathlib.Core.List.{List}
 use Prim.Native.Nat.{ℕ}
 use Rattle.paper.specs.declared.BlockId.{BlockId}
+use Rattle.paper.specs.declared.Spare.{Spare}
 use Rattle.paper.specs.declared.IdAnswer.{IdAnswer}
 use Rattle.paper.specs.declared.IdAnswer.the-variants.{Named, Reserved, WrongLength}
 use Rattle.paper.specs.declared.IdValues.{IdValues}
@@ -13,9 +14,18 @@ use Rattle.rules_surveys.specs.ReadId.{IdRead, IdSaid}
 -- ---- values
 
 module _ (a : IdAnswer) where
-  pub values-named : (b : BlockId) → a ≡ Named b → (code : ℕ) → code ≡ codeOf (b .section)
-      → record { number = 0; section = code; channel = b .channel; dseq = b .dseq; dbn = b .dbn .0 } ≡ idValues a
-  values-named b e code ec = rw (e, ec) refl
+  pub values-named : (b : BlockId) (s : Spare) → a ≡ Named b s → (code : ℕ) → code ≡ codeOf (b .section)
+      → record {
+        number = 0;
+        section = code;
+        channel = b .channel;
+        dseq = b .dseq;
+        dbn = b .dbn .0;
+        arbitrary = s .arbitrary;
+        reserved = s .reserved;
+      }
+      ≡ idValues a
+  values-named b s e code ec = rw (e, ec) refl
 
   pub values-reserved : a ≡ Reserved → (r : IdValues) → r ≡ idRefusal 11 → r ≡ idValues a
   values-reserved e r er = er ∙ rw e refl

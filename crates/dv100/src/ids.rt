@@ -4,6 +4,7 @@ ghost use Rattle.rules_format.specs.Ids.{idRefusal, idValues};
 use paper::BlockId;
 use paper::IdAnswer;
 use paper::IdValues;
+use paper::Spare;
 
 // A refusal: its number, and zeros.
 fn refused(number: u32) -> IdValues
@@ -15,6 +16,8 @@ fn refused(number: u32) -> IdValues
         channel: 0,
         dseq: 0,
         dbn: 0,
+        arbitrary: 0,
+        reserved: 0,
     }
 }
 
@@ -23,7 +26,7 @@ pub(crate) fn values(answer: IdAnswer) -> IdValues
     ensures { λ r. ⌜ r ≡ idValues answer ⌝ }
 {
     match answer {
-        IdAnswer::Named(b) => {
+        IdAnswer::Named(b, spare) => {
             let section = b.section;
             let dbn = b.dbn;
             IdValues {
@@ -32,6 +35,8 @@ pub(crate) fn values(answer: IdAnswer) -> IdValues
                 channel: b.channel,
                 dseq: b.dseq,
                 dbn: dbn.0,
+                arbitrary: spare.arbitrary,
+                reserved: spare.reserved,
             }
         }
         IdAnswer::Reserved => refused(11),

@@ -17,7 +17,7 @@ use Rattle.rules_surveys.specs.Survey.{outsideSequences}
 
 -- whether an ID names a block at all
 abbrev pub isNamed : IdAnswer → Bool
-isNamed (Named b) = true
+isNamed (Named b s) = true
 isNamed Reserved = false
 isNamed WrongLength = false
 

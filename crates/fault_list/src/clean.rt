@@ -12,7 +12,7 @@ fn is_named(id: IdAnswer) -> bool
     ensures { λ r. ⌜ r ≡ isNamed id ⌝ }
 {
     match id {
-        IdAnswer::Named(_) => true,
+        IdAnswer::Named(_, _) => true,
         IdAnswer::Reserved => false,
         IdAnswer::WrongLength => false,
     }

@@ -38,7 +38,7 @@ pub fn fault_of(id: IdAnswer, h: u32, q: u32, e: Entry) -> u32
     ensures { λ r. ⌜ r ≡ faultOf id h q e ⌝ }
 {
     match id {
-        IdAnswer::Named(b) => named_fault(b, h, q, e),
+        IdAnswer::Named(b, _) => named_fault(b, h, q, e),
         IdAnswer::Reserved => 11,
         IdAnswer::WrongLength => 4,
     }

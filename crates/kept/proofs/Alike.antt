@@ -1,4 +1,4 @@
--- What the calls answer of two frames that differ in audio blocks alone, by what the promises say of each. Assumes nothing.
+-- What the calls answer of two frames that are alike but for the sound, by what the promises say of each. Assumes nothing.
 use mathlib.Core.Path.{_≡_, sym, ap, _∙_, subst}
 use mathlib.Core.List.{List}
 use mathlib.Core.Logic.{inl, inr, _≢_}
@@ -17,8 +17,7 @@ use Rattle.paper.specs.declared.TimeAnswer.{TimeAnswer}
 use Rattle.paper.specs.Paper.{sequences, positions, soundChannel, soundFirst, sampleBy, modeSaid, slotPlace, bytesAt}
 use Rattle.promises.specs.Refusals.{Table, _if_, _else_, audioTable, macroblockTable, timeTable}
 use Rattle.promises.specs.Demand1.{Answers}
-use Rattle.promises.specs.Unrecorded.{SameButAudio, SameButAaux}
-use Rattle.promises.proofs.Apart.{Gives, SameAs, SameWords, survey-gives, salvage-gives, check-gives, view-gives, macroblock-gives, time-gives, audio-gives, sound-gives, count-same, mode-same}
+use Rattle.promises.proofs.Apart.{Gives, Alike, SameAs, SameWords, survey-gives, salvage-gives, check-gives, view-gives, macroblock-gives, time-gives, audio-gives, count-same, mode-same}
 use Rattle.promises.proofs.Apart.{some-sequence, low-section, low-same, bytes-same, slot-section, listed-same, salvage-out-same}
 use Rattle.promises.proofs.Tables.{row-past}
 use Rattle.promises.proofs.One.{lists-one, listed-one, salvage-out-one}
@@ -93,18 +92,20 @@ module _ {k : ℕ} {f : List ℕ} {c : ℕ} {samples heard : List ℤ} {r : Audi
       )
 
 -- one whose AS packs and words are the same in both frames
-pub same-audio : {k : ℕ} {f g : List ℕ} {c : ℕ} {samples heard heard′ : List ℤ} {r r′ : AudioAnswer} → SameButAudio k f g → SameAs k f g c → (0 < c → c < 9 → SameWords k f g c)
-    → AudioRead k f c samples r heard → AudioRead k g c samples r′ heard′ → (r ≡ r′) × (heard ≡ heard′)
+pub same-audio : {k : ℕ} {f g : List ℕ} {c : ℕ} {samples heard heard′ : List ℤ} {r r′ : AudioAnswer} → Alike k f g → (0 < c → c < 9 → SameAs k f g c)
+    → (0 < c → c < 9 → SameWords k f g c) → AudioRead k f c samples r heard → AudioRead k g c samples r′ heard′ → (r ≡ r′) × (heard ≡ heard′)
 same-audio {k} {f} {g} {c} {samples} {heard} {heard′} {r} {r′} s a w read read′ =
     let e : _≡_ {A = AudioAnswer × List ℤ} (r, heard) (r′, heard′) =
-    alike (reads.audio-answers k f c samples) (reads.audio-answers k g c samples) (audio-gives s (sound-gives s a)) read read′ (λ z z′.
+    alike (reads.audio-answers k f c samples) (reads.audio-answers k g c samples) (audio-gives s a) read read′ (λ z z′.
     let out = audio-out read in
     let out′ = audio-out read′ in
     let below = read-system read z in
     let some = some-sequence k below .1 in
+    let channel = read-channel read z in
+    let packs = a (channel .0) (channel .1) in
     let zero : soundFirst (sequences k) c + 0 ≡ soundFirst (sequences k) c = omega arith in
-    let count : r .count ≡ r′ .count = out .count z ∙ sym (rw zero at (count-same a 0 some)) ∙ sym (out′ .count z′) in
-    let mode = rw zero at (mode-same a 0 some) in
+    let count : r .count ≡ r′ .count = out .count z ∙ sym (rw zero at (count-same packs 0 some)) ∙ sym (out′ .count z′) in
+    let mode = rw zero at (mode-same packs 0 some) in
     let samples-same : heard ≡ heard′ =
     lists-one (r′ .count) (out .size ∙ sym (out′ .size))
     (λ t h.
@@ -114,51 +115,51 @@ same-audio {k} {f} {g} {c} {samples} {heard} {heard′} {r} {r′} s a w read re
     (λ d.
     known-system k below (λ y known.
     out .sample z d t h′
-    ∙ ap sampleBy (sym (w (read-channel read z .0) (read-channel read z .1) .word t (omega (arith, h′, count-within read z y known))))
+    ∙ ap sampleBy (sym (w (channel .0) (channel .1) .word t (omega (arith, h′, count-within read z y known))))
     ∙ sym (out′ .sample z′ (λ x. d (sym mode ∙ x)) t h))))
     (rw count at (out .rest z) ∙ sym (out′ .rest z′)) in
     λ i. (record { number = (z ∙ sym z′) i; count = count i }, samples-same i)) in
     two-parts e
 
--- ---- the calls that do not look behind the ID of an audio block
+-- ---- the calls that do not look behind the ID of an audio block, and salvage
 
-pub same-check : {k : ℕ} {f g : List ℕ} {r r′ : ℕ} → SameButAudio k f g → Checked k f r → Checked k g r′ → r ≡ r′
+pub same-check : {k : ℕ} {f g : List ℕ} {r r′ : ℕ} → Alike k f g → Checked k f r → Checked k g r′ → r ≡ r′
 same-check {k} {f} {g} s a a′ = alike (reads.check-answers k f) (reads.check-answers k g) (check-gives s) a a′ (λ z z′. z ∙ sym z′)
 
-pub same-survey : {k : ℕ} {f g list list₁ list₂ : List ℕ} {r r′ : Survey} → SameButAudio k f g → FrameSurveyed k f list r list₁ → FrameSurveyed k g list r′ list₂
+pub same-survey : {k : ℕ} {f g list list₁ list₂ : List ℕ} {r r′ : Survey} → Alike k f g → FrameSurveyed k f list r list₁ → FrameSurveyed k g list r′ list₂
     → (r ≡ r′) × (list₁ ≡ list₂)
 same-survey {k} {f} {g} {list} {list₁} {list₂} {r} {r′} s a a′ =
     let e : _≡_ {A = Survey × List ℕ} (r, list₁) (r′, list₂) =
     alike (surveys.survey-answers k f list) (surveys.survey-answers k g list) (survey-gives s) a a′ (λ z z′.
-    let one = listed-one (listed-same s (surveys.surveys-listed k a z)) (surveys.surveys-listed k a′ z′) (z ∙ sym z′) in
+    let one = listed-one (listed-same (s .faults) (surveys.surveys-listed k a z)) (surveys.surveys-listed k a′ z′) (z ∙ sym z′) in
     λ i. (one .0 i, one .1 i)) in
     two-parts e
 
-pub same-salvage : {k : ℕ} {f g : List ℕ} {samples samples₁ samples₂ : List ℤ} {list list₁ list₂ : List ℕ} {r r′ : Survey} → SameButAaux k f g
-    → Salvaged k f samples list r samples₁ list₁ → Salvaged k g samples list r′ samples₂ list₂ → (r ≡ r′) × (samples₁ ≡ samples₂) × (list₁ ≡ list₂)
-same-salvage {k} {f} {g} {samples} {samples₁} {samples₂} {list} {list₁} {list₂} {r} {r′} s a a′ =
+pub same-salvage : {k : ℕ} {f g : List ℕ} {samples samples₁ samples₂ : List ℤ} {list list₁ list₂ : List ℕ} {r r′ : Survey} → Alike k f g
+    → ((c : ℕ) → 0 < c → c < 9 → SameWords k f g c) → Salvaged k f samples list r samples₁ list₁ → Salvaged k g samples list r′ samples₂ list₂ → (r ≡ r′) × (samples₁ ≡ samples₂) × (list₁ ≡ list₂)
+same-salvage {k} {f} {g} {samples} {samples₁} {samples₂} {list} {list₁} {list₂} {r} {r′} s words a a′ =
     let e : _≡_ {A = Survey × List ℤ × List ℕ} (r, samples₁, list₁) (r′, samples₂, list₂) =
-    alike (surveys.salvage-answers k f samples list) (surveys.salvage-answers k g samples list) (salvage-gives (s .blocks)) a a′ (λ z z′.
-    let one = listed-one (listed-same (s .blocks) (surveys.salvages-listed k a z)) (surveys.salvages-listed k a′ z′) (z ∙ sym z′) in
-    let heard = salvage-out-one (salvage-out-same s (surveys.salvages-out k a z)) (surveys.salvages-out k a′ z′) in
+    alike (surveys.salvage-answers k f samples list) (surveys.salvage-answers k g samples list) (salvage-gives s) a a′ (λ z z′.
+    let one = listed-one (listed-same (s .faults) (surveys.salvages-listed k a z)) (surveys.salvages-listed k a′ z′) (z ∙ sym z′) in
+    let heard = salvage-out-one (salvage-out-same s words (surveys.salvages-out k a z)) (surveys.salvages-out k a′ z′) in
     λ i. (one .0 i, heard i, one .1 i)) in
     (ap (λ (o : Survey × List ℤ × List ℕ). o .0) e, ap (λ (o : Survey × List ℤ × List ℕ). o .1) e, ap (λ (o : Survey × List ℤ × List ℕ). o .2) e)
 
 -- a view of any block: its number, and where its part lies
-pub same-view : {k : ℕ} {f g : List ℕ} {h q : ℕ} {p : Place} {r r′ : ℕ} → SameButAudio k f g → ViewNumbered k f h q p r → ViewNumbered k g h q p r′ → r ≡ r′
+pub same-view : {k : ℕ} {f g : List ℕ} {h q : ℕ} {p : Place} {r r′ : ℕ} → Alike k f g → ViewNumbered k f h q p r → ViewNumbered k g h q p r′ → r ≡ r′
 same-view {k} {f} {g} {h} {q} {p} {r} {r′} s a a′ =
     let part = view-one k f h q p in
     let part′ = view-one k g h q p in
     surveys.view-answers k g h q p .no-other (r′, part′ .outcome) (a′, part′ .meets) r
     (view-gives h q (p .0) s .too (surveys.view-answers k f h q p .numbered (r, part .outcome) (a, part .meets)))
 
-pub same-view-at : {k : ℕ} {f g : List ℕ} {h q : ℕ} {p : Place} {r r′ : Part} → SameButAudio k f g → ViewLies k f h q p r → ViewLies k g h q p r′ → r ≡ r′
+pub same-view-at : {k : ℕ} {f g : List ℕ} {h q : ℕ} {p : Place} {r r′ : Part} → Alike k f g → ViewLies k f h q p r → ViewLies k g h q p r′ → r ≡ r′
 same-view-at {k} {f} {g} {h} {q} {p} s a a′ =
     alike (surveys.view-at-answers k f h q p) (surveys.view-at-answers k g h q p) (view-gives h q (p .0) s) a a′ (λ z z′.
     surveys.views-out (view-number-one k f h q p .meets) (view-one k f h q p .meets) a .lies z
     ∙ sym (surveys.views-out (view-number-one k g h q p .meets) (view-one k g h q p .meets) a′ .lies z′))
 
-pub same-macroblock : {k : ℕ} {f g : List ℕ} {b number number′ : ℕ} {part part′ : List ℕ} → SameButAudio k f g → MacroblockNumbered k f b number → MacroblockRead k f b part
+pub same-macroblock : {k : ℕ} {f g : List ℕ} {b number number′ : ℕ} {part part′ : List ℕ} → Alike k f g → MacroblockNumbered k f b number → MacroblockRead k f b part
     → MacroblockNumbered k g b number′ → MacroblockRead k g b part′ → (number ≡ number′) × (part ≡ part′)
 same-macroblock {k} {f} {g} {b} {number} {number′} {part} {part′} s n a n′ a′ =
     let e : _≡_ {A = ℕ × List ℕ} (number, part) (number′, part′) =
@@ -167,13 +168,13 @@ same-macroblock {k} {f} {g} {b} {number} {number′} {part} {part′} s n a n′
     let v = 5 * slot .g + slot .m in
     let lies : v < 135 = omega (arith, slot .group, slot .unit) in
     let whole = first-rows (subst (macroblockTable k f b) z (reads.macroblock-answers k f b .numbered (number, part) (n, a))) .1 in
-    let same = bytes-same s whole (slot .h) (slot .q) (slotPlace v) 3 77 (slot .channel) (slot .sequence) (omega (arith, lies)) (omega arith) (slot-section v lies) in
+    let same = bytes-same s whole (slot .h) (slot .q) (slotPlace v) 3 77 (slot .channel) (slot .sequence) (omega (arith, lies)) (omega arith) (omega arith) (slot-section v lies) in
     let out = picture-out n a .macroblock z (slot .h) (slot .q) (slot .g) (slot .m) (slot .channel) (slot .sequence) (slot .group) (slot .unit) (slot .carries) in
     let out′ = picture-out n′ a′ .macroblock z′ (slot .h) (slot .q) (slot .g) (slot .m) (slot .channel) (slot .sequence) (slot .group) (slot .unit) (slot .carries) in
     λ i. ((z ∙ sym z′) i, (out ∙ sym same ∙ sym out′) i)) in
     two-parts e
 
-pub same-macroblock-at : {k : ℕ} {f g : List ℕ} {b : ℕ} {r r′ : Part} → SameButAudio k f g → MacroblockLies k f b r → MacroblockLies k g b r′ → r ≡ r′
+pub same-macroblock-at : {k : ℕ} {f g : List ℕ} {b : ℕ} {r r′ : Part} → Alike k f g → MacroblockLies k f b r → MacroblockLies k g b r′ → r ≡ r′
 same-macroblock-at {k} {f} {g} {b} s a a′ =
     alike (reads.macroblock-at-answers k f b) (reads.macroblock-at-answers k g b) (macroblock-gives s) a a′ (λ z z′.
     let out = reads.macroblocks-out a in
@@ -182,16 +183,16 @@ same-macroblock-at {k} {f} {g} {b} s a a′ =
     out .lies z (slot .h) (slot .q) (slot .g) (slot .m) (slot .channel) (slot .sequence) (slot .group) (slot .unit) (slot .carries)
     ∙ sym (out′ .lies z′ (slot .h) (slot .q) (slot .g) (slot .m) (slot .channel) (slot .sequence) (slot .group) (slot .unit) (slot .carries)))
 
-pub same-time : {k : ℕ} {f g : List ℕ} {r r′ : TimeAnswer} → SameButAudio k f g → TimeRead k f r → TimeRead k g r′ → r ≡ r′
+pub same-time : {k : ℕ} {f g : List ℕ} {r r′ : TimeAnswer} → Alike k f g → TimeRead k f r → TimeRead k g r′ → r ≡ r′
 same-time {k} {f} {g} {r} {r′} s a a′ =
     alike (reads.time-answers k f) (reads.time-answers k g) (time-gives s) a a′ (λ z z′.
     let rows = first-rows (subst (timeTable k f) z (reads.time-answers k f .numbered r a)) in
     let some = some-sequence k (rows .0) .0 in
     let out = time-out a in
     let out′ = time-out a′ in
-    let first = low-same s 0 0 1 31 (omega arith) some (omega arith) (omega arith) in
-    let bytes : (i m : ℕ) → i + m ≤ 80 → bytesAt (sequences k) g 0 0 1 i m ≡ bytesAt (sequences k) f 0 0 1 i m =
-    λ i m h. bytes-same s (rows .1) 0 0 1 i m (omega arith) some (omega arith) h (low-section 1 (omega arith)) in
-    let time : r .time ≡ r′ .time = out .time z ∙ rw (first, bytes 32 3 (omega arith)) at (sym (out′ .time z′)) in
-    let group : r .group ≡ r′ .group = out .group z ∙ rw (bytes 39 4 (omega arith)) at (sym (out′ .group z′)) in
+    let first = low-same s 0 0 1 31 (omega arith) some (omega arith) (omega arith) (omega arith) in
+    let bytes : (i m : ℕ) → 3 ≤ i → i + m ≤ 80 → bytesAt (sequences k) g 0 0 1 i m ≡ bytesAt (sequences k) f 0 0 1 i m =
+    λ i m low h. bytes-same s (rows .1) 0 0 1 i m (omega arith) some (omega arith) low h (low-section 1 (omega arith)) in
+    let time : r .time ≡ r′ .time = out .time z ∙ rw (first, bytes 32 3 (omega arith) (omega arith)) at (sym (out′ .time z′)) in
+    let group : r .group ≡ r′ .group = out .group z ∙ rw (bytes 39 4 (omega arith) (omega arith)) at (sym (out′ .group z′)) in
     λ i. record { number = (z ∙ sym z′) i; time = time i; group = group i })

@@ -23,7 +23,7 @@ use Rattle.promises.specs.Refusals.{FirstFault, SomeOutside, countStored, modeS
 use Rattle.promises.specs.Unrecorded.{SameButAudio}
 use Rattle.promises.specs.Commentary.{HeardAgain, SalvagedAgain, SoundBytes, FrameHolds, Changed}
 use Rattle.promises.proofs.Tables.{row-past, row-on, none-outside, some-outside}
-use Rattle.promises.proofs.Apart.{replace-gives, then-gives, SameAs, SameWords, audio-gives, sound-gives, count-same, mode-same, some-sequence, fault-same, listed-same, all-named}
+use Rattle.promises.proofs.Apart.{Alike, apart-alike, refused-gives, then-gives, SameAs, SameWords, audio-gives, count-same, mode-same, some-sequence, fault-same, listed-same, all-named}
 use Rattle.promises.proofs.One.{listed-one}
 use Rattle.promises.proofs.Commentary.{exchanged-apart, exchanged-as, word-new, word-else}
 use Rattle.promises.proofs.LaidAgain.{form-mode, form-count, laid-again}
@@ -67,6 +67,9 @@ module _ {k : ℕ} {f : List ℕ} {c : ℕ} {samples : List ℤ} {g : List ℕ} 
   apart : SameButAudio k f g
   apart = exchanged-apart (replaces call) y known (takes-above t) (takes-below t) few
 
+  like : Alike k f g
+  like = apart-alike apart
+
   as-same : (d : ℕ) → SameAs k f g d
   as-same = exchanged-as (replaces call) y known (takes-above t) (takes-below t) few
 
@@ -99,7 +102,7 @@ module _ {k : ℕ} {f : List ℕ} {c : ℕ} {samples : List ℤ} {g : List ℕ} 
       audio-number k f c list (before .meets)
       ∙ sym (audio-rows k f c (length list) y known (eq-eqb _ _ (t .whole)) (t .channel) (eq-eqb _ _ fits) (t .checks)) ∙ t .hears in
       let z : o .number ≡ 0 =
-      sym (reads.audio-answers k g c list .no-other (o, heard) read 0 (audio-gives apart (sound-gives apart (as-same c)) .too (given (before .meets) z₀))) in
+      sym (reads.audio-answers k g c list .no-other (o, heard) read 0 (audio-gives like (λ above below. as-same c) .too (given (before .meets) z₀))) in
       let out = audio-out read in
       let count : o .count ≡ length samples = out .count z ∙ count-after ∙ sym many in
       record {
@@ -127,7 +130,7 @@ module _ {k : ℕ} {f : List ℕ} {c : ℕ} {samples : List ℤ} {g : List ℕ} 
       let rows : replaceTable k f c samples 0 = replacing.replace-answers k f c samples .numbered (0, g) call in
       let three = row-past (λ e. omega (arith, e)) (row-past (λ e. omega (arith, e)) (row-past (λ e. omega (arith, e)) rows .1) .1) in
       let clean : (r : ℕ) → FirstFault (sequences k) f r → ⊥ = ⊎-elim (λ a. absurd (a .some refl)) (λ p. p .0) (three .1) in
-      fault-same apart j j within ∙ all-named (sequences k) f clean (600 * sequences k) (omega arith) j within
+      fault-same like j j within ∙ all-named (sequences k) f clean (600 * sequences k) (omega arith) j within
 
   salvaged-new : {buffer before after : List ℤ} {list list₁ list₂ : List ℕ} {r r′ : Survey} → length buffer ≡ 8 * positions k
       → Salvaged k f buffer list r before list₁ → Salvaged k g buffer list r′ after list₂ → (r ≡ r′) × (list₁ ≡ list₂) × SalvagedAgain k c samples before after
@@ -141,7 +144,7 @@ module _ {k : ℕ} {f : List ℕ} {c : ℕ} {samples : List ℤ} {g : List ℕ} 
       λ size e. row-on (λ above. omega (arith, above, known-below k y known)) (row-on (λ d. d e) (row-on (λ d. d room) refl)) in
       let z : r .number ≡ 0 = sym (surveys.salvage-answers k f buffer list .no-other (r, before, list₁) a 0 (zero (length f) whole)) in
       let z′ : r′ .number ≡ 0 = sym (surveys.salvage-answers k g buffer list .no-other (r′, after, list₂) a′ 0 (zero (length g) (x .size ∙ whole))) in
-      let one = listed-one (listed-same apart (surveys.salvages-listed k a z)) (surveys.salvages-listed k a′ z′) (z ∙ sym z′) in
+      let one = listed-one (listed-same (like .faults) (surveys.salvages-listed k a z)) (surveys.salvages-listed k a′ z′) (z ∙ sym z′) in
       let out = surveys.salvages-out k a z in
       let out′ = surveys.salvages-out k a′ z′ in
       let stored : (d u : ℕ) → 0 < d → d < 9 → faultFor (sequences k) f d u ≡ 0 = λ d u d1 d8. sym (same-fault d u d1 d8) ∙ fault-none d u d1 d8 in (
@@ -162,7 +165,7 @@ module _ {k : ℕ} {f : List ℕ} {c : ℕ} {samples : List ℤ} {g : List ℕ} 
       same-fault : (d u : ℕ) → 0 < d → d < 9 → faultFor (sequences k) g d u ≡ faultFor (sequences k) f d u
       same-fault d u d1 d8 =
           let e = columns k y known .sequences-is in
-          fault-same apart (soundIndex (sequences k) d u) (soundIndex (sequences k) d u) (rw e (omega (arith, sound-within y f d u d1 d8)))
+          fault-same like (soundIndex (sequences k) d u) (soundIndex (sequences k) d u) (rw e (omega (arith, sound-within y f d u d1 d8)))
 
   -- ---- the writer
 
@@ -186,14 +189,21 @@ module _ {k : ℕ} {f : List ℕ} {c : ℕ} {samples : List ℤ} {g : List ℕ} 
   pub heard-again : {list heard : List ℤ} {o : AudioAnswer} → length list ≡ positions k → AudioRead k g c list o heard → HeardAgain samples list o heard
   heard-again room read = by-replaced call (λ y known t. heard-new call y known t room read)
 
+  -- the stored count is one of the positions
+  pub few-stored : countStored k f c ≤ positions k
+  few-stored = by-replaced call (few call)
+
   -- it differs from the frame before behind the IDs of audio blocks alone
   pub audio-alone : SameButAudio k f g
   audio-alone = by-replaced call (apart call)
 
+  pub alike-after : Alike k f g
+  alike-after = apart-alike audio-alone
+
   pub others-again : (d : ℕ) → d ≢ c → {list heard heard′ : List ℤ} {o o′ : AudioAnswer} → AudioRead k f d list o heard → AudioRead k g d list o′ heard′
       → (o ≡ o′) × (heard ≡ heard′)
   others-again d ne read read′ =
-      by-replaced call (λ y known t. same-audio (apart call y known t) (as-same call y known t d) (words-same call y known t d ne) read read′)
+      by-replaced call (λ y known t. same-audio (like call y known t) (λ above below. as-same call y known t d) (words-same call y known t d ne) read read′)
 
   pub salvaged-again : {buffer before after : List ℤ} {list list₁ list₂ : List ℕ} {r r′ : Survey} → length buffer ≡ 8 * positions k
       → Salvaged k f buffer list r before list₁ → Salvaged k g buffer list r′ after list₂ → (r ≡ r′) × (list₁ ≡ list₂) × SalvagedAgain k c samples before after
@@ -252,7 +262,7 @@ pub refused-when : {k : ℕ} {f : List ℕ} {c : ℕ} {list heard : List ℤ} {o
     → {samples : List ℤ} {r : ℕ} {g : List ℕ} → Replaced k f c samples r g → r ≡ o .number
 refused-when {k} {f} {c} {list} {heard} {o} read some four {samples} {r} {g} call =
     sym (replacing.replace-answers k f c samples .no-other (r, g) call (o .number)
-    (replace-gives k f c (length list) samples (o .number) some four .too (reads.audio-answers k f c list .numbered (o, heard) read)))
+    (refused-gives k f c (length list) samples (o .number) some four .too (reads.audio-answers k f c list .numbered (o, heard) read)))
 
 -- and where it is read, what the list and the mark are refused for
 pub refused-then : {k : ℕ} {f : List ℕ} {c : ℕ} {list heard : List ℤ} {o : AudioAnswer} → AudioRead k f c list o heard → o .number ≡ 0

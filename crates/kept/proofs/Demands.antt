@@ -1,5 +1,5 @@
 -- The promises are kept, of any answer that the contracts of the public calls allow. Each theorem cites its workshop; what it says is in crate `promises`
--- (`Demand1`, `Demand2`, `Demand3`, `Unrecorded`, `Commentary`; `Refusals`, `Form`), in the words of crate `paper`. Assumes nothing.
+-- (`Demand1`, `Demand2`, `Demand3`, `Unrecorded`, `Commentary`, `SpareBits`; `Refusals`, `Form`), in the words of crate `paper`. Assumes nothing.
 use mathlib.Core.Path.{_≡_, refl, sym, _∙_}
 use mathlib.Core.Bool.{Bool, true, false}
 use mathlib.Core.List.{List, [], _∷_, _++_}
@@ -7,7 +7,7 @@ use mathlib.Core.Logic.{_≢_}
 use Prim.Native.Nat.{ℕ, _+_, _*_, _/_, _<_}
 use lib.Dec.{T}
 use lib.IntN.{ℤ, pos}
-use lib.ListN.{length, getD}
+use lib.ListN.{length, getD, set}
 use Rattle.base.specs.Pick.{pick}
 use Rattle.base.specs.Run.{run}
 use Rattle.base.specs.Calls.{Refusal, firstOf, _when_, ExactlyOne}
@@ -33,7 +33,7 @@ use Rattle.rules_replaces.specs.Replace.{Replaced}
 use Rattle.rules_writes.specs.Write.{Wrote}
 use Rattle.rules_picture.specs.Rows.{rowsAgree, printedRows}
 use Rattle.rules_format.specs.Known.{all, table}
-use Rattle.paper.specs.Paper.{sequences, positions, macroblocks, streamFault, soundChannel, soundFirst, soundWord, modeSaid, back}
+use Rattle.paper.specs.Paper.{sequences, positions, macroblocks, bytesAt, sectionAt, numberAt, streamFault, soundChannel, soundFirst, soundWord, modeSaid, back}
 use Rattle.paper.specs.Bytes.{OwnCount}
 use Rattle.rules_format.specs.InNumbers.{InNumbers}
 use Rattle.kept.specs.EveryCall.{EveryCall}
@@ -44,17 +44,22 @@ use Rattle.promises.specs.Unrecorded.{Marks, every, ComesBackLost, SameButAudio
 use Rattle.promises.specs.Form.{HasForm}
 use Rattle.promises.specs.Refusals.{SomeOutside, modeStored, listTable}
 use Rattle.promises.specs.Commentary.{Exchanged, HeardAgain, SalvagedAgain, SoundBytes, FrameHolds, Changed}
+use Rattle.promises.specs.SpareBits.{WithSection, Values, told, SameButSpare}
 use Rattle.promises.proofs.Unrecorded.{marks-aaux}
 use Rattle.kept.proofs.Deciding.{ids-decided, views-decided, macroblocks-decided, reads-decided}
 use Rattle.kept.proofs.WritingBack.{writes-back, strict-decided, frame-decided}
 use Rattle.rules_surveys.proofs.Listing.{same-listed}
 use Rattle.kept.proofs.Salvaging.{salvages, salvage-decided}
 use Rattle.kept.proofs.Worthless.{tone-taken, one-for-two, frame-for-two, all-lost}
-use Rattle.kept.proofs.Alike.{same-salvage, same-check, same-survey, same-view, same-view-at, same-macroblock, same-macroblock-at, same-time}
+use Rattle.kept.proofs.Alike.{same-audio, same-salvage, same-check, same-survey, same-view, same-view-at, same-macroblock, same-macroblock-at, same-time}
 use Rattle.kept.proofs.Unrecorded.{comes-back-lost, others-same, handed-out, some-marked}
 use Rattle.kept.proofs.Held.{held-one}
-use Rattle.kept.proofs.Commentary.{heard-again, audio-alone, others-again, salvaged-again, made-again, form-made, form-ours}
+use Rattle.promises.proofs.Apart.{apart-alike, aaux-words}
+use Rattle.promises.proofs.SpareBits.{spare-alike, spare-as, spare-words}
+use Rattle.kept.proofs.Commentary.{heard-again, alike-after, others-again, salvaged-again, made-again, form-made, form-ours}
 use Rattle.kept.proofs.Commentary.{taken-when, refused-when, refused-then, ours-taken, ours-form, silenced, left-alone}
+use Rattle.kept.proofs.SpareBits.{said-told, read-told, said-only, values-said, one-answer, ones-written, same-viewed, same-sequence, same-replaced}
+use Rattle.rules_format.specs.Ids.{idValues}
 use Rattle.rules_format.proofs.Headlines as format
 use Rattle.rules_picture.proofs.Headlines as picture
 use Rattle.rules_packs.proofs.Headlines as packs
@@ -221,32 +226,32 @@ module _ {k : ℕ} {f : List ℕ} {c : ℕ} {which : ℕ → Bool} {g : List ℕ
 -- "salvage is unaffected", whatever stands in AAUX
 pub unrecorded-salvage : {k : ℕ} {f g : List ℕ} → SameButAaux k f g → {samples samples₁ samples₂ : List ℤ} {list list₁ list₂ : List ℕ} {r r′ : Survey}
     → Salvaged k f samples list r samples₁ list₁ → Salvaged k g samples list r′ samples₂ list₂ → (r ≡ r′) × (samples₁ ≡ samples₂) × (list₁ ≡ list₂)
-unrecorded-salvage same = same-salvage same
+unrecorded-salvage same = same-salvage (apart-alike (same .blocks)) (aaux-words same)
 
 -- and frame check, survey, macroblock and time code reads, and the number and place of a block view, do not look behind the ID of an audio block
 module _ {k : ℕ} {f g : List ℕ} (same : SameButAudio k f g) where
   pub audio-apart-check : {r r′ : ℕ} → Checked k f r → Checked k g r′ → r ≡ r′
-  audio-apart-check = same-check same
+  audio-apart-check = same-check (apart-alike same)
 
   pub audio-apart-survey : {list list₁ list₂ : List ℕ} {r r′ : Survey} → FrameSurveyed k f list r list₁ → FrameSurveyed k g list r′ list₂
       → (r ≡ r′) × (list₁ ≡ list₂)
-  audio-apart-survey = same-survey same
+  audio-apart-survey = same-survey (apart-alike same)
 
   pub audio-apart-view : {h q : ℕ} {p : Place} {r r′ : ℕ} → ViewNumbered k f h q p r → ViewNumbered k g h q p r′ → r ≡ r′
-  audio-apart-view = same-view same
+  audio-apart-view = same-view (apart-alike same)
 
   pub audio-apart-view-at : {h q : ℕ} {p : Place} {r r′ : Part} → ViewLies k f h q p r → ViewLies k g h q p r′ → r ≡ r′
-  audio-apart-view-at = same-view-at same
+  audio-apart-view-at = same-view-at (apart-alike same)
 
   pub audio-apart-macroblock : {b number number′ : ℕ} {part part′ : List ℕ} → MacroblockNumbered k f b number → MacroblockRead k f b part
       → MacroblockNumbered k g b number′ → MacroblockRead k g b part′ → (number ≡ number′) × (part ≡ part′)
-  audio-apart-macroblock = same-macroblock same
+  audio-apart-macroblock = same-macroblock (apart-alike same)
 
   pub audio-apart-macroblock-at : {b : ℕ} {r r′ : Part} → MacroblockLies k f b r → MacroblockLies k g b r′ → r ≡ r′
-  audio-apart-macroblock-at = same-macroblock-at same
+  audio-apart-macroblock-at = same-macroblock-at (apart-alike same)
 
   pub audio-apart-time : {r r′ : TimeAnswer} → TimeRead k f r → TimeRead k g r′ → r ≡ r′
-  audio-apart-time = same-time same
+  audio-apart-time = same-time (apart-alike same)
 
 -- ---- a new commentary channel: the call was handed the frame f, audio channel c and its new samples, answered 0 and left g
 
@@ -267,27 +272,27 @@ module _ {k : ℕ} {f : List ℕ} {c : ℕ} {samples : List ℤ} {g : List ℕ} 
   commentary-others = others-again call
 
   pub commentary-check : {r r′ : ℕ} → Checked k f r → Checked k g r′ → r ≡ r′
-  commentary-check = same-check (audio-alone call)
+  commentary-check = same-check (alike-after call)
 
   pub commentary-view : {h q : ℕ} {p : Place} {r r′ : ℕ} → ViewNumbered k f h q p r → ViewNumbered k g h q p r′ → r ≡ r′
-  commentary-view = same-view (audio-alone call)
+  commentary-view = same-view (alike-after call)
 
   pub commentary-view-at : {h q : ℕ} {p : Place} {r r′ : Part} → ViewLies k f h q p r → ViewLies k g h q p r′ → r ≡ r′
-  commentary-view-at = same-view-at (audio-alone call)
+  commentary-view-at = same-view-at (alike-after call)
 
   pub commentary-macroblock : {b number number′ : ℕ} {part part′ : List ℕ} → MacroblockNumbered k f b number → MacroblockRead k f b part
       → MacroblockNumbered k g b number′ → MacroblockRead k g b part′ → (number ≡ number′) × (part ≡ part′)
-  commentary-macroblock = same-macroblock (audio-alone call)
+  commentary-macroblock = same-macroblock (alike-after call)
 
   pub commentary-macroblock-at : {b : ℕ} {r r′ : Part} → MacroblockLies k f b r → MacroblockLies k g b r′ → r ≡ r′
-  commentary-macroblock-at = same-macroblock-at (audio-alone call)
+  commentary-macroblock-at = same-macroblock-at (alike-after call)
 
   pub commentary-time : {r r′ : TimeAnswer} → TimeRead k f r → TimeRead k g r′ → r ≡ r′
-  commentary-time = same-time (audio-alone call)
+  commentary-time = same-time (alike-after call)
 
   pub commentary-survey : {list list₁ list₂ : List ℕ} {r r′ : Survey} → FrameSurveyed k f list r list₁ → FrameSurveyed k g list r′ list₂
       → (r ≡ r′) × (list₁ ≡ list₂)
-  commentary-survey = same-survey (audio-alone call)
+  commentary-survey = same-survey (alike-after call)
 
   pub commentary-salvage : {buffer before after : List ℤ} {list list₁ list₂ : List ℕ} {r r′ : Survey} → length buffer ≡ 8 * positions k
       → Salvaged k f buffer list r before list₁ → Salvaged k g buffer list r′ after list₂ → (r ≡ r′) × (list₁ ≡ list₂) × SalvagedAgain k c samples before after
@@ -351,6 +356,83 @@ one-contents = held-one
 pub one-changed : (l : Contents) (c : ℕ) (samples : List ℤ) → 0 < c → c < 9 → length samples ≡ l .count → length (l .sound) ≡ 8 * l .count
     → ExactlyOne Contents (Changed l c samples)
 one-changed = promised.one-changed
+
+-- ---- the spare bits
+
+-- "The ID answer must carry the four arbitrary bits and three reserved bits as found, beside what it names.": three bytes with a section are told back, bit
+-- for bit, by the values of their answer, and by the answer
+pub spare-told : {id : List ℕ} {v : IdValues} → IdSaid id v → WithSection id → Values v × (told v ≡ id)
+spare-told = said-told
+
+pub spare-told-answer : {id : List ℕ} {o : IdAnswer} → IdRead id o → WithSection id → told (idValues o) ≡ id
+spare-told-answer = read-told
+
+-- no others are
+pub spare-told-only : {id : List ℕ} {v : IdValues} → IdSaid id v → told v ≡ id → (length id ≡ 3) × (getD id 0 0 / 32 < 5)
+spare-told-only = said-only
+
+-- and all values that an answer can have are those of the three bytes that they tell
+pub spare-values : {v : IdValues} → Values v → WithSection (told v) × ((v′ : IdValues) → IdSaid (told v) v′ → v′ ≡ v)
+spare-values = values-said
+
+-- spare bits answered as ones, or as anything but what they are: two IDs with one answer
+pub not-masked : {id id′ : List ℕ} {v : IdValues} → WithSection id → WithSection id′ → IdSaid id v → IdSaid id′ v → id ≡ id′
+not-masked = one-answer
+
+-- what our writer made answers ones
+pub spare-written : {k : ℕ} {l : Contents} {frame f : List ℕ} → Wrote k l frame 0 f → (h q p : ℕ) → h < 4 → q < sequences k → p < 150
+    → {v : IdValues} → IdSaid (bytesAt (sequences k) f h q p 0 3) v
+    → v ≡ record { number = 0; section = sectionAt p; channel = h; dseq = q; dbn = numberAt p; arbitrary = 15; reserved = 7 }
+spare-written = ones-written
+
+-- "Frame check, block view, survey and salvage all stand on that answer and keep their own results.", and so do the other calls: f and g differ in spare
+-- bits alone, in any block
+module _ (k : ℕ) {f g : List ℕ} (same : SameButSpare (600 * sequences k) f g) where
+  pub spare-check : {r r′ : ℕ} → Checked k f r → Checked k g r′ → r ≡ r′
+  spare-check = same-check (spare-alike same)
+
+  -- the part is the block as it stands
+  pub spare-view : {h q : ℕ} {p : Place} {r r′ : ℕ} {part part′ : List ℕ} → ViewNumbered k f h q p r → Viewed k f h q p part → ViewNumbered k g h q p r′
+      → Viewed k g h q p part′ → (r ≡ r′) × SameButSpare 1 part part′
+  spare-view = same-viewed same
+
+  pub spare-view-at : {h q : ℕ} {p : Place} {r r′ : Part} → ViewLies k f h q p r → ViewLies k g h q p r′ → r ≡ r′
+  spare-view-at = same-view-at (spare-alike same)
+
+  pub spare-survey : {list list₁ list₂ : List ℕ} {r r′ : Survey} → FrameSurveyed k f list r list₁ → FrameSurveyed k g list r′ list₂ → (r ≡ r′) × (list₁ ≡ list₂)
+  spare-survey = same-survey (spare-alike same)
+
+  pub spare-salvage : {samples samples₁ samples₂ : List ℤ} {list list₁ list₂ : List ℕ} {r r′ : Survey} → Salvaged k f samples list r samples₁ list₁
+      → Salvaged k g samples list r′ samples₂ list₂ → (r ≡ r′) × (samples₁ ≡ samples₂) × (list₁ ≡ list₂)
+  spare-salvage = same-salvage (spare-alike same) (spare-words same)
+
+  pub spare-audio : {c : ℕ} {samples heard heard′ : List ℤ} {o o′ : AudioAnswer} → AudioRead k f c samples o heard → AudioRead k g c samples o′ heard′
+      → (o ≡ o′) × (heard ≡ heard′)
+  spare-audio {c} = same-audio (spare-alike same) (spare-as same c) (spare-words same c)
+
+  pub spare-macroblock : {b number number′ : ℕ} {part part′ : List ℕ} → MacroblockNumbered k f b number → MacroblockRead k f b part
+      → MacroblockNumbered k g b number′ → MacroblockRead k g b part′ → (number ≡ number′) × (part ≡ part′)
+  spare-macroblock = same-macroblock (spare-alike same)
+
+  pub spare-macroblock-at : {b : ℕ} {r r′ : Part} → MacroblockLies k f b r → MacroblockLies k g b r′ → r ≡ r′
+  spare-macroblock-at = same-macroblock-at (spare-alike same)
+
+  pub spare-time : {r r′ : TimeAnswer} → TimeRead k f r → TimeRead k g r′ → r ≡ r′
+  spare-time = same-time (spare-alike same)
+
+  -- a replaced channel leaves the spare bits as they stand
+  pub spare-replace : {c : ℕ} {samples : List ℤ} {r r′ : ℕ} {f′ g′ : List ℕ} → Replaced k f c samples r f′ → Replaced k g c samples r′ g′
+      → (r ≡ r′) × SameButSpare (600 * sequences k) f′ g′
+  spare-replace = same-replaced same
+
+pub spare-sequence : (k h q : ℕ) {f g list list₁ list₂ : List ℕ} {r r′ : Survey} → SameButSpare 150 f g → SequenceSurveyed k h q f list r list₁
+    → SequenceSurveyed k h q g list r′ list₂ → (r ≡ r′) × (list₁ ≡ list₂)
+spare-sequence = same-sequence
+
+-- the spare bits of any block may be anything
+pub any-spare : (m : ℕ) (f : List ℕ) (j s r : ℕ) → s < 32 → r < 4 → j * 80 + 1 < length f
+    → SameButSpare m f (set (set f (j * 80) (getD f (j * 80) 0 / 32 * 32 + s)) (j * 80 + 1) (getD f (j * 80 + 1) 0 / 4 * 4 + r))
+any-spare = promised.any-spare
 
 -- ---- the premises can be met, for each system and count; and what the demands refute
 

@@ -9,4 +9,5 @@ pub mod Alike
 pub mod Unrecorded
 pub mod Held
 pub mod Commentary
+pub mod SpareBits
 pub mod Demands

@@ -12,7 +12,7 @@ use Rattle.paper.specs.Paper.{sequences, positions, macroblocks, soundChannel, 
 use Rattle.paper.specs.Bytes.{OwnCount}
 use Rattle.promises.specs.Demand2.{tone}
 use Rattle.promises.specs.Unrecorded.{Marks, every, ComesBackLost}
-use Rattle.promises.proofs.Apart.{some-sequence, aaux-words}
+use Rattle.promises.proofs.Apart.{apart-alike, some-sequence, aaux-words}
 use Rattle.promises.proofs.Unrecorded.{marks-aaux, marks-as, every-leads, some-leads, marked-count, marked-mode}
 use Rattle.rules_format.proofs.Systems.{macroblocks-some}
 use Rattle.rules_format.proofs.Paper.{columns, known-system}
@@ -51,7 +51,7 @@ some-marked {k} {f} {c} {which} {g} m i j hi hj wi wj d {samples} {heard} {heard
 pub others-same : {k : ℕ} {f : List ℕ} {c : ℕ} {which : ℕ → Bool} {g : List ℕ} → Marks k f c which g → (c′ : ℕ) → 0 < c → 0 < c′ → c′ < 9 → c′ ≢ c
     → {samples heard heard′ : List ℤ} {r r′ : AudioAnswer} → AudioRead k f c′ samples r heard → AudioRead k g c′ samples r′ heard′ → (r ≡ r′) × (heard ≡ heard′)
 others-same m c′ c1 c1′ c8′ d read read′ =
-    same-audio (marks-aaux m .blocks) (marks-as m c′ c1 c1′ d) (aaux-words (marks-aaux m) c′) read read′
+    same-audio (apart-alike (marks-aaux m .blocks)) (λ above below. marks-as m c′ c1 c1′ d) (aaux-words (marks-aaux m) c′) read read′
 
 -- ---- the words of a marked channel are not handed out
 

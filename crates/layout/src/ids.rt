@@ -6,6 +6,7 @@ use crate::places;
 use paper::BlockId;
 use paper::BlockNumber;
 use paper::IdAnswer;
+use paper::Spare;
 
 // The DIF channel of FSC and FSP.
 fn channel(fsc: u32, fsp: u32) -> u32
@@ -29,12 +30,15 @@ pub fn read_id(id: &[u8]) -> IdAnswer
     let byte1 = base::wide(id[1]);
     let byte2 = base::wide(id[2]);
     if byte0 / 32 < 5 {
-        return IdAnswer::Named(BlockId {
+        let named = BlockId {
             section: places::section_of(byte0 / 32),
             channel: channel(byte1 / 8 % 2, byte1 / 4 % 2),
             dseq: byte1 / 16,
             dbn: BlockNumber(byte2),
-        });
+        };
+        let arbitrary = byte0 % 16;
+        let reserved = byte0 / 16 % 2 * 4 + byte1 % 4;
+        return IdAnswer::Named(named, Spare { arbitrary: arbitrary, reserved: reserved });
     }
     IdAnswer::Reserved
 }

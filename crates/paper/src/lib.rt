@@ -55,9 +55,15 @@ pub struct BlockId {
     pub dbn: BlockNumber,
 }
 
-// The answer to an ID: a named block, fault 11, or refusal 4.
+// The spare bits of an ID, which name nothing: the arbitrary bits 3-0 of byte 0; the reserved bits, 4 of byte 0 above 1-0 of byte 1.
+pub struct Spare {
+    pub arbitrary: u32,
+    pub reserved: u32,
+}
+
+// The answer to an ID: a named block with the spare bits beside it, fault 11, or refusal 4.
 pub enum IdAnswer {
-    Named(BlockId),
+    Named(BlockId, Spare),
     Reserved,
     WrongLength,
 }
@@ -70,6 +76,8 @@ pub struct IdValues {
     pub channel: u32,
     pub dseq: u32,
     pub dbn: u32,
+    pub arbitrary: u32,
+    pub reserved: u32,
 }
 
 // A survey record: where a block stands that does not name its place, and its fault.

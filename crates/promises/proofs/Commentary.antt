@@ -30,18 +30,22 @@ use Rattle.promises.proofs.One.{channels-one}
 
 -- ---- one answer
 
-pub exchanged-one : {k : ℕ} {f : List ℕ} {c : ℕ} {samples : List ℤ} {g g′ : List ℕ} → Exchanged k f c samples g → Exchanged k f c samples g′ → g ≡ g′
-exchanged-one {k} {f} {c} {samples} {g} {g′} m m′ =
+-- a byte that is the same in two frames is the same in what becomes of them
+pub exchanged-byte : {k : ℕ} {f f′ : List ℕ} {c : ℕ} {samples : List ℤ} {g g′ : List ℕ} → Exchanged k f c samples g → Exchanged k f′ c samples g′
+    → (i : ℕ) → getD f′ i 0 ≡ getD f i 0 → getD g′ i 0 ≡ getD g i 0
+exchanged-byte {k} {f} {f′} {c} {samples} m m′ i same =
     let at : ℕ → ℕ = soundStart (sequences k) c in
-    ext-getD 0 g g′ (m .size ∙ sym (m′ .size)) (λ i b.
-    by-below (λ (t : ℕ). eqb i (soundStart (sequences k) c t)) (countStored k f c)
-    (λ t h e. let h′ : t < length samples = omega (arith, h, m .count) in rw (eqb-true i (soundStart (sequences k) c t) e) (m .high t h′ ∙ sym (m′ .high t h′)))
+    by-below (λ (t : ℕ). eqb i (soundStart (sequences k) c t)) (length samples)
+    (λ t h e. rw (eqb-true i (soundStart (sequences k) c t) e) (m′ .high t h ∙ sym (m .high t h)))
     (λ high.
-    by-below (λ (t : ℕ). eqb i (soundStart (sequences k) c t + 1)) (countStored k f c)
-    (λ t h e. let h′ : t < length samples = omega (arith, h, m .count) in rw (eqb-true i (soundStart (sequences k) c t + 1) e) (m .low t h′ ∙ sym (m′ .low t h′)))
+    by-below (λ (t : ℕ). eqb i (soundStart (sequences k) c t + 1)) (length samples)
+    (λ t h e. rw (eqb-true i (soundStart (sequences k) c t + 1) e) (m′ .low t h ∙ sym (m .low t h)))
     (λ low.
-    let apart : Elsewhere (sequences k) c (countStored k f c) i = λ t h. (eqb-false i (at t) (high t h), eqb-false i (at t + 1) (low t h)) in
-    m .other i apart ∙ sym (m′ .other i apart))))
+    let apart : Elsewhere (sequences k) c (length samples) i = λ t h. (eqb-false i (at t) (high t h), eqb-false i (at t + 1) (low t h)) in
+    m′ .other i (rw (m′ .count) at apart) ∙ same ∙ sym (m .other i (rw (m .count) at apart))))
+
+pub exchanged-one : {k : ℕ} {f : List ℕ} {c : ℕ} {samples : List ℤ} {g g′ : List ℕ} → Exchanged k f c samples g → Exchanged k f c samples g′ → g ≡ g′
+exchanged-one {g = g} {g′ = g′} m m′ = ext-getD 0 g g′ (m .size ∙ sym (m′ .size)) (λ i b. exchanged-byte m′ m i refl)
 
 -- a position below the count of its channel, or any other
 pub salvaged-again-one : {k c : ℕ} {samples before after after′ : List ℤ} → SalvagedAgain k c samples before after → SalvagedAgain k c samples before after′ → after ≡ after′

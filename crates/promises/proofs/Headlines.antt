@@ -16,6 +16,8 @@ use Rattle.paper.specs.declared.AudioAnswer.{AudioAnswer}
 use Rattle.promises.specs.Demand3.{Listed, SalvageOut, Salvages, SampleSalvaged}
 use Rattle.promises.specs.Unrecorded.{Marks, SameButAudio, SameButAaux}
 use Rattle.promises.specs.Commentary.{Exchanged, SalvagedAgain, Changed}
+use Rattle.promises.specs.SpareBits.{WithSection, Values, told, SameButSpare}
+use Rattle.promises.proofs.SpareBits.{named-values, named-told, told-named, told-section, told-values, spare-free}
 use Rattle.promises.proofs.Apart.{audio-free, aaux-free}
 use Rattle.promises.proofs.Commentary.{exchanged-one, salvaged-again-one}
 use Rattle.promises.proofs.Holding.{changed-exactly}
@@ -116,6 +118,21 @@ one-salvaged-again = salvaged-again-one
 pub one-changed : (l : Contents) (c : ℕ) (samples : List ℤ) → 0 < c → c < 9 → length samples ≡ l .count → length (l .sound) ≡ 8 * l .count
     → ExactlyOne Contents (Changed l c samples)
 one-changed = changed-exactly
+
+-- ---- the spare bits: three bytes and the values of their answer are told from each other; what may differ where nothing else does
+
+pub id-told : {id : List ℕ} {o : IdAnswer} {v : IdValues} → IdOut id o v → WithSection id → Values v × (told v ≡ id)
+id-told out w = (named-values out w, named-told out (w .size) (w .section))
+
+pub id-told-only : {id : List ℕ} {o : IdAnswer} {v : IdValues} → IdOut id o v → told v ≡ id → (length id ≡ 3) × (getD id 0 0 / 32 < 5)
+id-told-only = told-named
+
+pub values-told : {v : IdValues} → Values v → WithSection (told v) × ((o : IdAnswer) (v′ : IdValues) → IdOut (told v) o v′ → v′ ≡ v)
+values-told w = (told-section w, λ o v′ out. told-values w out)
+
+pub any-spare : (m : ℕ) (f : List ℕ) (j s r : ℕ) → s < 32 → r < 4 → j * 80 + 1 < length f
+    → SameButSpare m f (set (set f (j * 80) (getD f (j * 80) 0 / 32 * 32 + s)) (j * 80 + 1) (getD f (j * 80 + 1) 0 / 4 * 4 + r))
+any-spare = spare-free
 
 -- ---- 3: the fault list, and what is salvaged
 

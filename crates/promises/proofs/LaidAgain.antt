@@ -22,7 +22,7 @@ use Rattle.promises.specs.Refusals.{countStored, modeStored}
 use Rattle.promises.specs.Commentary.{Exchanged, Changed}
 use Rattle.rules_format.specs.Systems.{systemOf}
 use Rattle.rules_format.proofs.Paper.{known-below}
-use Rattle.promises.proofs.Apart.{bytes-alike, bytes-same, byte-same, low-section, slot-section, some-sequence}
+use Rattle.promises.proofs.Apart.{Alike, apart-alike, bytes-alike, bytes-same, low-same, low-section, slot-section, some-sequence}
 use Rattle.promises.proofs.LaidOut.{cut-byte}
 use Rattle.promises.proofs.Commentary.{head-same, exchanged-apart, high-else, low-else, word-else}
 
@@ -84,20 +84,23 @@ module _ {k : ℕ} {f : List ℕ} {c : ℕ} {samples : List ℤ} {g : List ℕ} 
   heads h q p i m hh hq hp hi =
       bytes-alike f g (x .size) (form .size) h q p i m hh hq hp (omega arith) (λ b l. head-same x y known c1 c8 few ((n * h + q) * 150 + p) (i + b) (omega arith))
 
+  like : Alike k f g
+  like = apart-alike (exchanged-apart x y known c1 c8 few)
+
   -- bytes of the first six blocks
-  lows : (h q p i m : ℕ) → h < 4 → q < n → p < 6 → i + m ≤ 80 → cut k g h q p i m ≡ cut k f h q p i m
-  lows h q p i m hh hq hp hi = bytes-same (exchanged-apart x y known c1 c8 few) (form .size) h q p i m hh hq (omega arith) hi (low-section p hp)
+  lows : (h q p i m : ℕ) → h < 4 → q < n → p < 6 → 3 ≤ i → i + m ≤ 80 → cut k g h q p i m ≡ cut k f h q p i m
+  lows h q p i m hh hq hp low hi = bytes-same like (form .size) h q p i m hh hq (omega arith) low hi (low-section p hp)
 
   slots : (h q u m : ℕ) → h < 4 → q < n → u < 27 → m < 5 → cut k g h q (slotPlace (5 * u + m)) 3 77 ≡ cut k f h q (slotPlace (5 * u + m)) 3 77
   slots h q u m hh hq hu hm =
       let v : 5 * u + m < 135 = omega arith in
-      bytes-same (exchanged-apart x y known c1 c8 few) (form .size) h q (slotPlace (5 * u + m)) 3 77 hh hq (omega arith) (omega arith) (slot-section (5 * u + m) v)
+      bytes-same like (form .size) h q (slotPlace (5 * u + m)) 3 77 hh hq (omega arith) (omega arith) (omega arith) (slot-section (5 * u + m) v)
 
   same-time : timeBytes k g ≡ timeBytes k f
-  same-time = lows 0 0 1 31 4 (omega arith) some (omega arith) (omega arith)
+  same-time = lows 0 0 1 31 4 (omega arith) some (omega arith) (omega arith) (omega arith)
 
   same-group : groupBytes k g ≡ groupBytes k f
-  same-group = lows 0 0 1 39 4 (omega arith) some (omega arith) (omega arith)
+  same-group = lows 0 0 1 39 4 (omega arith) some (omega arith) (omega arith) (omega arith)
 
   same-size : sizeByte k g ≡ sizeByte k f
   same-size = head-same x y known c1 c8 few ((n * 0 + 0) * 150 + 54) 4 (omega arith)
@@ -113,14 +116,14 @@ module _ {k : ℕ} {f : List ℕ} {c : ℕ} {samples : List ℤ} {g : List ℕ} 
   form-again = record {
     size = x .size ∙ form .size;
     ids = λ h q p hh hq hp. heads h q p 0 3 hh hq hp (omega arith) ∙ form .ids h q p hh hq hp;
-    headers = λ h q hh hq. lows h q 0 3 77 hh hq (omega arith) (omega arith) ∙ form .headers h q hh hq;
+    headers = λ h q hh hq. lows h q 0 3 77 hh hq (omega arith) (omega arith) (omega arith) ∙ form .headers h q hh hq;
     ssybs = λ h q j hh hq hj.
-        lows h q (1 + j / 6) (3 + 8 * (j % 6)) 8 hh hq (omega arith) (omega arith) ∙ form .ssybs h q j hh hq hj
+        lows h q (1 + j / 6) (3 + 8 * (j % 6)) 8 hh hq (omega arith) (omega arith) (omega arith) ∙ form .ssybs h q j hh hq hj
         ∙ ap₂ (λ (time group : List ℕ). ssybForm k time group q j) (sym same-time) (sym same-group);
-    subcode-ones = λ h q j hh hq hj. lows h q (1 + j) 51 29 hh hq (omega arith) (omega arith) ∙ form .subcode-ones h q j hh hq hj;
-    bit-6 = λ e. ap (λ (b : ℕ). b / 64 % 2) (byte-same (exchanged-apart x y known c1 c8 few) 0 0 1 31 (omega arith) some (omega arith) (omega arith) (low-section 1 (omega arith))) ∙ form .bit-6 e;
-    vaux = λ h q j hh hq hj. lows h q (3 + j / 15) (3 + 5 * (j % 15)) 5 hh hq (omega arith) (omega arith) ∙ form .vaux h q j hh hq hj;
-    vaux-ones = λ h q j hh hq hj. lows h q (3 + j) 78 2 hh hq (omega arith) (omega arith) ∙ form .vaux-ones h q j hh hq hj;
+    subcode-ones = λ h q j hh hq hj. lows h q (1 + j) 51 29 hh hq (omega arith) (omega arith) (omega arith) ∙ form .subcode-ones h q j hh hq hj;
+    bit-6 = λ e. ap (λ (b : ℕ). b / 64 % 2) (low-same like 0 0 1 31 (omega arith) some (omega arith) (omega arith) (omega arith)) ∙ form .bit-6 e;
+    vaux = λ h q j hh hq hj. lows h q (3 + j / 15) (3 + 5 * (j % 15)) 5 hh hq (omega arith) (omega arith) (omega arith) ∙ form .vaux h q j hh hq hj;
+    vaux-ones = λ h q j hh hq hj. lows h q (3 + j) 78 2 hh hq (omega arith) (omega arith) (omega arith) ∙ form .vaux-ones h q j hh hq hj;
     aaux = λ h q a hh hq ha.
         heads h q (6 + 16 * a) 3 5 hh hq (omega arith) (omega arith) ∙ form .aaux h q a hh hq ha ∙ ap (λ (size : ℕ). aauxForm k size q a) (sym same-size);
     lf = ap (λ (size : ℕ). size / 64) same-size ∙ form .lf;

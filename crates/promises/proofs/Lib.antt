@@ -6,6 +6,7 @@ pub mod OneNumber
 pub mod Apart
 pub mod Unrecorded
 pub mod Commentary
+pub mod SpareBits
 pub mod LaidAgain
 pub mod Holding
 pub mod Headlines

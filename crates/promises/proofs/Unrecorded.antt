@@ -22,12 +22,12 @@ use Rattle.paper.specs.Bytes.{WrongAs}
 use Rattle.paper.specs.Bytes.WrongAs.{wrongHeader, wrongLf, wrongSize, wrongChn, wrongMode, wrongRate, wrongStype, wrongSmpQu}
 use Rattle.promises.specs.Refusals.{SomeInHalf, asByte, AsBreaks, AsDiffer, audioTable}
 use Rattle.promises.specs.Unrecorded.{modeByte, Marks, every, SameButAaux}
-use Rattle.promises.proofs.Apart.{Leads, if-leads, audio-leads, SameAs, differ-to, sequences-two}
+use Rattle.promises.proofs.Apart.{apart-alike, Leads, if-leads, audio-leads, SameAs, differ-to, sequences-two}
 
 -- ---- Marks
 
 -- AS stands in an audio block
-as-place : (q : ℕ) → (sectionAt (asPlace q) ≡ 3) × (asPlace q < 150)
+pub as-place : (q : ℕ) → (sectionAt (asPlace q) ≡ 3) × (asPlace q < 150)
 unfolding figure3 asPack
 as-place q = (pick-either (λ (a : ℕ). sectionAt (6 + 16 * a) ≡ 3) _ refl refl, pick-either (λ (a : ℕ). 6 + 16 * a < 150) _ (omega arith) (omega arith))
 
@@ -151,7 +151,7 @@ module _ {k : ℕ} {f : List ℕ} {c : ℕ} {which : ℕ → Bool} {g : List ℕ
   pub some-leads : {room : ℕ} (i j : ℕ) → i < sequences k / 2 → j < sequences k / 2 → which i ≡ true → which j ≡ false
       → modeSaid (sequences k) f (soundChannel c) (soundFirst (sequences k) c + j) ≢ 0xF → Leads 25 (audioTable k f c room) (audioTable k g c room)
   some-leads i j hi hj wi wj d =
-      audio-leads (marks-aaux m .blocks)
+      audio-leads (apart-alike (marks-aaux m .blocks))
       (if-leads 24 (λ z. omega (arith, z)) unmarked-breaks
       (record {
         to = λ e. inl (refl, inr (record { r = i; r′ = j; rank = hi; rank′ = hj; differ = λ z. d (sym (own-unmarked m j hj wj) ∙ sym z ∙ own-marked m i hi wi) }));
@@ -167,7 +167,7 @@ module _ {k : ℕ} {f : List ℕ} {c : ℕ} {g : List ℕ} (m : Marks k f c ever
   -- a channel that is read is read when all of it is marked
   pub every-leads : {room : ℕ} → Leads 0 (audioTable k f c room) (audioTable k g c room)
   every-leads =
-      audio-leads (marks-aaux m .blocks)
+      audio-leads (apart-alike (marks-aaux m .blocks))
       (if-leads 24 (λ z. omega (arith, z)) (unmarked-breaks m) (if-leads 25 (λ z. omega (arith, z)) unmarked-differ (record { to = λ e. e })))
 
   -- its count stays, and its mode is 1111

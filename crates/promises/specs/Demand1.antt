@@ -38,12 +38,13 @@ abbrev pub ReadIdAnswers : (List ℕ → IdAnswer → Type 0) → Type 0
 ReadIdAnswers Contract =
     (id : List ℕ)
     → Answers IdAnswer (Contract id) (λ o. idValues o .number) (idTable id)
-    (λ o. idValues o ≡ record { number = idValues o .number; section = 0; channel = 0; dseq = 0; dbn = 0 })
+    (λ o. idValues o ≡ record { number = idValues o .number; section = 0; channel = 0; dseq = 0; dbn = 0; arbitrary = 0; reserved = 0 })
 
 abbrev pub IdValuesAnswers : (List ℕ → IdValues → Type 0) → Type 0
 IdValuesAnswers Contract =
     (id : List ℕ)
-    → Answers IdValues (Contract id) (λ o. o .number) (idTable id) (λ o. o ≡ record { number = o .number; section = 0; channel = 0; dseq = 0; dbn = 0 })
+    → Answers IdValues (Contract id) (λ o. o .number) (idTable id)
+    (λ o. o ≡ record { number = o .number; section = 0; channel = 0; dseq = 0; dbn = 0; arbitrary = 0; reserved = 0 })
 
 abbrev pub SurveyAnswers : (ℕ → List ℕ → List ℕ → Survey → List ℕ → Type 0) → Type 0
 SurveyAnswers Contract =

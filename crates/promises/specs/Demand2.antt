@@ -25,7 +25,8 @@ use Rattle.paper.specs.Bytes.{firstAnswered}
 
 -- ---- "Frames are read .. as Recommendation ITU-R BT.1620-1 lays down and document 01 sets out, for all four systems": any input, where a read answers 0
 
--- "block IDs": the answer o, and the same by its values v
+-- "block IDs": the answer o, and the same by its values v; "The ID answer must carry the four arbitrary bits and three reserved bits as found, beside
+-- what it names."
 pub record IdOut (id : List ℕ) (o : IdAnswer) (v : IdValues) : Type 0 where
   pub wrong-length : length id ≢ 3 → o ≡ WrongLength
   pub reserved : length id ≡ 3 → 5 ≤ getD id 0 0 / 32 → o ≡ Reserved
@@ -36,8 +37,17 @@ pub record IdOut (id : List ℕ) (o : IdAnswer) (v : IdValues) : Type 0 where
         dseq = getD id 1 0 / 16;
         dbn = record { 0 = getD id 2 0 };
       })
+      (record { arbitrary = getD id 0 0 % 16; reserved = getD id 0 0 / 16 % 2 * 4 + getD id 1 0 % 4 })
   pub values : v .number ≡ 0
-      → v ≡ record { number = 0; section = getD id 0 0 / 32; channel = channelBy (getD id 1 0 / 4 % 4); dseq = getD id 1 0 / 16; dbn = getD id 2 0 }
+      → v ≡ record {
+        number = 0;
+        section = getD id 0 0 / 32;
+        channel = channelBy (getD id 1 0 / 4 % 4);
+        dseq = getD id 1 0 / 16;
+        dbn = getD id 2 0;
+        arbitrary = getD id 0 0 % 16;
+        reserved = getD id 0 0 / 16 % 2 * 4 + getD id 1 0 % 4;
+      }
   pub same : idValues o ≡ v
 
 -- a block view: the number with its part, and the same by start and length

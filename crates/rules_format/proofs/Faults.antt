@@ -14,6 +14,7 @@ use Rattle.base.proofs.Picks.{first-zero, pick-either}
 use Rattle.paper.specs.declared.BlockNumber.{BlockNumber}
 use Rattle.paper.specs.declared.Entry.{Entry}
 use Rattle.paper.specs.declared.BlockId.{BlockId}
+use Rattle.paper.specs.declared.Spare.{Spare}
 use Rattle.paper.specs.declared.IdAnswer.{IdAnswer}
 use Rattle.paper.specs.declared.IdAnswer.the-variants.{Named, Reserved, WrongLength}
 use Rattle.rules_format.specs.Places.{codeOf, place, entryAt}
@@ -61,9 +62,9 @@ unfolding faultAt faultOf
 fault-names block h q p z = by-answer (blockAnswer block) refl z
   where
     by-answer : (a : IdAnswer) → blockAnswer block ≡ a → faultOf a h q (entryAt (place p)) ≡ 0 → NamesPlace block h q p
-    by-answer (Named b) e f =
+    by-answer (Named b s) e f =
         let m = misnamed-zero b h q (entryAt (place p)) f in
-        record { id = b; named = e; section = m .0; channel = m .1; dseq = m .2; dbn = m .3 }
+        record { id = b; spare = s; named = e; section = m .0; channel = m .1; dseq = m .2; dbn = m .3 }
     by-answer Reserved e f = absurd (omega arith)
     by-answer WrongLength e f = absurd (omega arith)
 
@@ -84,7 +85,7 @@ pub fault-11 : (block : List ℕ) (h q p : ℕ) → blockAnswer block ≡ Reserv
 unfolding faultAt faultOf
 fault-11 block h q p e = rw e refl
 
-module _ (block : List ℕ) (h q p : ℕ) (b : BlockId) (named : blockAnswer block ≡ Named b) where
+module _ (block : List ℕ) (h q p : ℕ) (b : BlockId) (s : Spare) (named : blockAnswer block ≡ Named b s) where
   pub fault-12 : (b .section ≡ entryAt (place p) .section → ⊥) → faultAt block h q p ≡ 12
   unfolding faultAt faultOf misnamed firstOf pick
   fault-12 d = rw (named, ne-eqb _ _ (λ e. d (code-one _ _ e))) refl
@@ -109,7 +110,7 @@ unfolding faultAt faultOf
 fault-within block h q p long = by-answer (blockAnswer block) refl
   where
     by-answer : (a : IdAnswer) → blockAnswer block ≡ a → FaultNumber (faultOf a h q (entryAt (place p)))
-    by-answer (Named b) e = misnamed-within b h q (entryAt (place p))
+    by-answer (Named b s) e = misnamed-within b h q (entryAt (place p))
     by-answer Reserved e = inr (omega arith, omega arith)
     by-answer WrongLength e = absurd (answer-long (take 3 block) (length-take-le 3 block long) e)
 
@@ -120,6 +121,7 @@ written-names rest h q p hh hq hp =
     names-fault _ h q p
     (record {
       id = idAt h q (place p);
+      spare = record { arbitrary = 15; reserved = 7 };
       named = answer-written (idAt h q (place p)) hh hq (omega (arith, number-below p hp));
       section = refl;
       channel = refl;

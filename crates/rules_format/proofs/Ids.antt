@@ -5,14 +5,13 @@ use mathlib.Core.List.{List}
 use Prim.Native.Nat.{ℕ, _+_, _*_, _/_, _≤_, _<_, _%_}
 use native.Mathlib.Omega.{arith}
 use lib.Dec.{eqb, ltb, eqb→eq}
-use lib.ListN.{length, getD}
+use lib.ListN.{length}
 use borrow.Author.Tests.{eq-eqb, ne-eqb, lt-ltb, le-ltb}
 use Rattle.base.specs.Pick.{pick}
 use Rattle.base.proofs.Picks.{pick-true, pick-false}
 use Rattle.paper.specs.declared.IdAnswer.the-variants.{Named, Reserved, WrongLength}
 use Rattle.rules_format.specs.Places.{codeOf}
-use Rattle.rules_format.specs.Ids.{sectionBits, dseqBits, fscBit, fspBit, channelOf, namedBy, idAnswer, fscOf, fspOf, byte0Of, byte1Of, byte2Of}
-use Rattle.rules_format.specs.Ids.{idBytes}
+use Rattle.rules_format.specs.Ids.{sectionBits, channelOf, namedBy, spareIn, idAnswer, fscOf, fspOf, byte0Of, byte1Of, byte2Of, idBytes}
 use Rattle.rules_format.proofs.Places.{section-code, code-below}
 use native.Mathlib.Nat.{mod-eq-of-lt}
 use Rattle.base.proofs.Below.{below-at}
@@ -31,21 +30,12 @@ channel-bits h l = eqb→eq _ _ (below-at (λ k. eqb (channelOf (fscOf k) (fspOf
 
 -- ---- idAnswer
 
--- "Other bits are .. ignored on reading": the answer goes by bits 7-5 of byte 0, bits 7-2 of byte 1 and byte 2
-pub answer-judged : (a b : List ℕ) → length a ≡ length b → getD a 0 0 / 32 ≡ getD b 0 0 / 32 → getD a 1 0 / 4 ≡ getD b 1 0 / 4 → getD a 2 0 ≡ getD b 2 0 → idAnswer a ≡ idAnswer b
-unfolding idAnswer namedBy
-answer-judged a b l s c n =
-    let d : dseqBits a ≡ dseqBits b = omega arith in
-    let f : fscBit a ≡ fscBit b = omega arith in
-    let g : fspBit a ≡ fspBit b = omega arith in
-    rw (l, s, d, f, g, n) refl
-
 -- three bytes have an answer
 pub answer-long : (id : List ℕ) → length id ≡ 3 → idAnswer id ≡ WrongLength → ⊥
 unfolding idAnswer pick
 answer-long id e w = three (ltb (sectionBits id) 5) (rw (eq-eqb _ _ e) at w)
   where
-    three : (b : Bool) → pick b (Named (namedBy id)) Reserved ≡ WrongLength → ⊥
+    three : (b : Bool) → pick b (Named (namedBy id) (spareIn id)) Reserved ≡ WrongLength → ⊥
     three true z = let q : _≡_ {A = ℕ} 0 1 = cc in omega arith
     three false z = let q : _≡_ {A = ℕ} 0 1 = cc in omega arith
 
@@ -65,9 +55,9 @@ module _ (q fsc fsp : ℕ) (hq : q < 16) (hc : fsc < 2) (hp : fsp < 2) where
   pub second-judged : (q % 16 * 16 + fsc * 8 + fsp * 4 + 3) / 4 ≡ 4 * q + 2 * fsc + fsp
   second-judged = omega (arith, mod-eq-of-lt hq)
 
--- a written ID reads back to what it names
-pub answer-written : (b : BlockId) → b .channel < 4 → b .dseq < 16 → b .dbn .0 < 256 → idAnswer (idBytes b) ≡ Named b
-unfolding idAnswer namedBy idBytes
+-- a written ID reads back to what it names, its spare bits all 1
+pub answer-written : (b : BlockId) → b .channel < 4 → b .dseq < 16 → b .dbn .0 < 256 → idAnswer (idBytes b) ≡ Named b (record { arbitrary = 15; reserved = 7 })
+unfolding idAnswer namedBy spareIn idBytes
 answer-written b hc hd hn =
     let h = b .channel in
     let c : fscOf h < 2 = omega arith in
@@ -78,9 +68,12 @@ answer-written b hc hd hn =
     let fsc : byte1Of b / 8 % 2 ≡ fscOf h = second-fsc (b .dseq) (fscOf h) (fspOf h) hd c p in
     let fsp : byte1Of b / 4 % 2 ≡ fspOf h = second-fsp (b .dseq) (fscOf h) (fspOf h) hd c p in
     let dbn : byte2Of b ≡ b .dbn .0 = mod-eq-of-lt hn in
+    let arbitrary : byte0Of b % 16 ≡ 15 = omega arith in
+    let bit : byte0Of b / 16 % 2 ≡ 1 = omega arith in
+    let low : byte1Of b % 4 ≡ 3 = omega arith in
     pick-true _ _ refl
     ∙ pick-true _ _ (lt-ltb _ _ below)
-    ∙ rw (section, dseq, fsc, fsp, dbn, section-code (b .section), channel-bits h hc) refl
+    ∙ rw (section, dseq, fsc, fsp, dbn, arbitrary, bit, low, section-code (b .section), channel-bits h hc) refl
 
 -- ---- idAnswer: each case exactly when
 
@@ -93,6 +86,6 @@ module _ (id : List ℕ) where
   unfolding idAnswer
   read-id-11 e r = pick-true _ _ (eq-eqb _ _ e) ∙ pick-false _ _ (le-ltb _ _ r)
 
-  pub read-id-0 : length id ≡ 3 → sectionBits id < 5 → idAnswer id ≡ Named (namedBy id)
+  pub read-id-0 : length id ≡ 3 → sectionBits id < 5 → idAnswer id ≡ Named (namedBy id) (spareIn id)
   unfolding idAnswer
   read-id-0 e s = pick-true _ _ (eq-eqb _ _ e) ∙ pick-true _ _ (lt-ltb _ _ s)

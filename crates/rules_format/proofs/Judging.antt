@@ -1,20 +1,19 @@
 -- A block whose judged bits are those of its place, DIF channel and sequence names its place. Assumes nothing.
-use mathlib.Core.Path.{_≡_, refl, _∙_}
-use mathlib.Core.List.{List}
+use mathlib.Core.Path.{_≡_, _∙_}
+use mathlib.Core.List.{List, [], _++_}
 use Prim.Native.Nat.{ℕ, _+_, _*_, _^_, _/_, _≤_, _<_}
 use native.Mathlib.Omega.{arith}
 use lib.Bits.{bitAnd, and-block, and-mask, and-high}
 use lib.Dec.{lit≤}
-use lib.ListN.{length, getD, take}
-use lib.Seq.{getD-take, length-take-le}
-use Rattle.paper.specs.declared.IdAnswer.the-variants.{Named}
+use lib.ListN.{length, getD}
 use Rattle.rules_format.specs.Places.{codeOf, place, entryAt}
-use Rattle.rules_format.specs.Ids.{blockAnswer, idBytes, idAt, fscOf, fspOf}
+use Rattle.rules_format.specs.Ids.{idBytes, idAt, fscOf, fspOf}
 use Rattle.rules_format.specs.Faults.{faultAt}
 use Rattle.rules_format.specs.Judging.{judgedBits, printed, keyOf}
 use Rattle.rules_format.proofs.Places.{code-below, number-below}
-use Rattle.rules_format.proofs.Ids.{answer-judged, answer-written, second-judged}
-use Rattle.rules_format.proofs.Faults.{names-fault}
+use Rattle.rules_format.proofs.Ids.{second-judged}
+use Rattle.rules_format.proofs.Faults.{written-names}
+use Rattle.rules_format.proofs.Paper.{fault-judged}
 
 -- ---- bounds
 
@@ -53,18 +52,10 @@ module _ (block : List ℕ) (h q p : ℕ) (long : 3 ≤ length block) (b0 : getD
       parts-one (getD block 0 0 / 32) (getD block 1 0 / 4) (getD block 2 0) (codeOf (entryAt (place p) .section)) (4 * q + 2 * fscOf h + fspOf h) (entryAt (place p) .number .0)
       (omega (arith, b0)) (omega (arith, b1)) b2 (omega (arith, code-below (entryAt (place p) .section))) (omega arith) (omega (arith, number-below p hp)) e
 
-  -- the answer is that to the ID that would be written there
-  answers : blockAnswer block ≡ Named (idAt h q (place p))
-  unfolding idBytes idAt
-  answers =
-      let w = idAt h q (place p) in
-      let g0 = getD-take 3 block 0 0 (omega arith) in
-      let g1 = getD-take 3 block 1 0 (omega arith) in
-      let g2 = getD-take 3 block 2 0 (omega arith) in
-      answer-judged (take 3 block) (idBytes w) (length-take-le 3 block long)
-      (omega (arith, g0, parts .0)) (omega (arith, g1, parts .1, second-judged q (fscOf h) (fspOf h) hq (omega arith) (omega arith))) (omega (arith, g2, parts .2, number-below p hp))
-      ∙ answer-written w hh hq (omega (arith, number-below p hp))
-
+  -- as if the ID that would be written there stood there
   pub judged-names : faultAt block h q p ≡ 0
-  unfolding idAt
-  judged-names = names-fault block h q p (record { id = idAt h q (place p); named = answers; section = refl; channel = refl; dseq = refl; dbn = refl })
+  unfolding idBytes idAt
+  judged-names =
+      fault-judged block (idBytes (idAt h q (place p)) ++ []) h q p long (omega arith)
+      (omega (arith, parts .0)) (omega (arith, parts .1, second-judged q (fscOf h) (fspOf h) hq (omega arith) (omega arith))) (omega (arith, parts .2, number-below p hp))
+      ∙ written-names [] h q p hh hq hp

@@ -33,9 +33,9 @@ use Rattle.rules_format.proofs.Blocks.{start-within, block-in-sequence,
 use Rattle.rules_format.proofs.Samples.{lost-word, sample-lost, sample-level, sample-none, heard-is, word-is, back-is, all-in, all-pass}
 use Rattle.rules_format.proofs.Sound.{rank-below, audio-below, word-below, sequence-below, sample-back, audio-sequence, rank-sequence}
 use Rattle.rules_format.proofs.Faults.{names-place, names-none}
-use Rattle.rules_format.proofs.Paper.{id-is, fault-is, channel-by, block-bytes, figure-section, figure-number}
+use Rattle.rules_format.proofs.Paper.{id-is, fault-is, fault-judged, channel-by, block-bytes, figure-section, figure-number}
 use Rattle.rules_format.proofs.Reading.{salvaged-named, salvaged-lost}
-use Rattle.rules_format.specs.Ids.{namedBy, idAt, idBytes}
+use Rattle.rules_format.specs.Ids.{namedBy, spareIn, idAt, idBytes}
 use Rattle.rules_format.proofs.Blocks
 
 -- ---- isCount
@@ -159,18 +159,18 @@ systems-are = record {
 }
 
 id-answers-are : IdsInNumbers
-unfolding sectionOf pick namedBy
+unfolding sectionOf pick namedBy spareIn
 id-answers-are = record {
   sections = (refl, refl, refl, refl, refl);
   codes = (refl, refl, refl, refl, refl);
   channels = channel-pairs;
-  bits = λ id. (refl, refl, refl, refl, refl);
+  bits = λ id. (refl, refl, refl, refl, refl, refl, refl);
   ids = id-is;
   ids-at = ids-are;
   read = λ id three l. read-id-0 id three l ∙ rw (channel-by (getD id 1 0)) refl;
   reserved = read-id-11;
   wrong-length = read-id-4;
-  values = λ b. (refl, refl, refl);
+  values = λ b s. (refl, refl, refl);
 }
 
 blocks-are : BlocksInNumbers
@@ -198,6 +198,7 @@ blocks-are = record {
   names-not = λ y g j e n. names-none _ _ _ _ e n;
   names-in = λ block h q p l. ap (λ (x : ℕ). eqb x 0) (fault-is block h q p l);
   faults = fault-is;
+  spare = fault-judged;
 }
 
 sound-is : SoundInNumbers

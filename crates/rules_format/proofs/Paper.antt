@@ -161,6 +161,19 @@ module _ (bytes : List ℕ) (h q p : ℕ) (long : 3 ≤ length bytes) where
       rw (read-id-0 (take 3 bytes) three (rw b0 l), b0, b1, b2, lt-leb _ _ l, code-section (getD bytes 0 0 / 32) l, channel-by (getD bytes 1 0), figure-section p, figure-number p) refl)
       (λ g. rw (read-id-11 (take 3 bytes) three (rw b0 g), le-leb _ _ g) refl)
 
+-- "Other bits are .. ignored on reading": bits 7-5 of byte 0, bits 7-2 of byte 1 and byte 2 decide, wherever the block stands
+pub fault-spare : (a0 a1 b0 b1 x h q p : ℕ) → a0 / 32 ≡ b0 / 32 → a1 / 4 ≡ b1 / 4 → fault a0 a1 x h q p ≡ fault b0 b1 x h q p
+unfolding fault
+fault-spare a0 a1 b0 b1 x h q p s c =
+    let channel : a1 / 4 % 4 ≡ b1 / 4 % 4 = ap (λ (w : ℕ). w % 4) c in
+    let dseq : a1 / 16 ≡ b1 / 16 = omega (arith, c) in
+    rw (s, channel, dseq) refl
+
+pub fault-judged : (a b : List ℕ) (h q p : ℕ) → 3 ≤ length a → 3 ≤ length b → getD a 0 0 / 32 ≡ getD b 0 0 / 32 → getD a 1 0 / 4 ≡ getD b 1 0 / 4
+    → getD a 2 0 ≡ getD b 2 0 → faultAt a h q p ≡ faultAt b h q p
+fault-judged a b h q p la lb s c n =
+    fault-is a h q p la ∙ rw n (fault-spare (getD a 0 0) (getD a 1 0) (getD b 0 0) (getD b 1 0) (getD b 2 0) h q p s c) ∙ sym (fault-is b h q p lb)
+
 -- ---- byteAt, bytesAt
 
 module _ (y : System) (f : List ℕ) (h q p i : ℕ) (hi : i < 80) where

@@ -7,6 +7,7 @@ use lib.Dec.{eqb}
 use Rattle.base.specs.Calls.{firstOf, _when_}
 use Rattle.paper.specs.declared.Entry.{Entry}
 use Rattle.paper.specs.declared.BlockId.{BlockId}
+use Rattle.paper.specs.declared.Spare.{Spare}
 use Rattle.paper.specs.declared.IdAnswer.{IdAnswer}
 use Rattle.paper.specs.declared.IdAnswer.the-variants.{Named, Reserved, WrongLength}
 use Rattle.rules_format.specs.Places.{codeOf, place, entryAt}
@@ -21,8 +22,9 @@ misnamed b h q e = firstOf (
     ∷ 15 when not (eqb (b .dbn .0) (e .number .0))
     ∷ [])
 
+-- "Frame check, block view, survey and salvage .. keep their own results": the spare bits are not asked
 unfoldable pub faultOf : IdAnswer → ℕ → ℕ → Entry → ℕ
-faultOf (Named b) h q e = misnamed b h q e
+faultOf (Named b s) h q e = misnamed b h q e
 faultOf Reserved h q e = idValues Reserved .number
 faultOf WrongLength h q e = idValues WrongLength .number
 
@@ -33,7 +35,8 @@ faultAt block h q p = faultOf (blockAnswer block) h q (entryAt (place p))
 -- "A block names its place when section, channel, Dseq and DBN all do."
 pub record NamesPlace (block : List ℕ) (h q p : ℕ) : Type 0 where
   pub id : BlockId
-  pub named : blockAnswer block ≡ Named id
+  pub spare : Spare
+  pub named : blockAnswer block ≡ Named id spare
   pub section : id .section ≡ entryAt (place p) .section
   pub channel : id .channel ≡ h
   pub dseq : id .dseq ≡ q

@@ -7,6 +7,7 @@ use Rattle.base.specs.Pick.{pick}
 use Rattle.paper.specs.declared.Section.{Section}
 use Rattle.paper.specs.declared.Place.{Place}
 use Rattle.paper.specs.declared.BlockId.{BlockId}
+use Rattle.paper.specs.declared.Spare.{Spare}
 use Rattle.paper.specs.declared.IdAnswer.{IdAnswer}
 use Rattle.paper.specs.declared.IdAnswer.the-variants.{Named, Reserved, WrongLength}
 use Rattle.paper.specs.declared.IdValues.{IdValues}
@@ -32,6 +33,14 @@ fspBit id = getD id 1 0 / 4 % 2
 abbrev pub dbnByte : List ℕ → ℕ
 dbnByte id = getD id 2 0
 
+-- "the four arbitrary bits", 3-0 of byte 0
+abbrev pub arbitraryBits : List ℕ → ℕ
+arbitraryBits id = getD id 0 0 % 16
+
+-- "and three reserved bits", 4 of byte 0 above 1-0 of byte 1
+abbrev pub reservedBits : List ℕ → ℕ
+reservedBits id = getD id 0 0 / 16 % 2 * 4 + getD id 1 0 % 4
+
 -- "(FSC, FSP) = (0,1), (1,1), (0,0), (1,0) is channel 0, 1, 2, 3"
 unfoldable pub channelOf : ℕ → ℕ → ℕ
 channelOf fsc fsp = pick (eqb fsp 1) (pick (eqb fsc 0) 0 1) (pick (eqb fsc 0) 2 3)
@@ -47,8 +56,12 @@ namedBy id = record {
   dbn = record { 0 = dbnByte id };
 }
 
+-- the spare bits "as found, beside what it names"
+unfoldable pub spareIn : List ℕ → Spare
+spareIn id = record { arbitrary = arbitraryBits id; reserved = reservedBits id }
+
 unfoldable pub idAnswer : List ℕ → IdAnswer
-idAnswer id = pick (eqb (length id) 3) (pick (ltb (sectionBits id) 5) (Named (namedBy id)) Reserved) WrongLength
+idAnswer id = pick (eqb (length id) 3) (pick (ltb (sectionBits id) 5) (Named (namedBy id) (spareIn id)) Reserved) WrongLength
 
 -- the answer to the ID of a block, its first three bytes
 abbrev pub blockAnswer : List ℕ → IdAnswer
@@ -56,10 +69,18 @@ blockAnswer block = idAnswer (take 3 block)
 
 -- the paper's number and values for each answer
 abbrev pub idRefusal : ℕ → IdValues
-idRefusal k = record { number = k; section = 0; channel = 0; dseq = 0; dbn = 0 }
+idRefusal k = record { number = k; section = 0; channel = 0; dseq = 0; dbn = 0; arbitrary = 0; reserved = 0 }
 
 abbrev pub idValues : IdAnswer → IdValues
-idValues (Named b) = record { number = 0; section = codeOf (b .section); channel = b .channel; dseq = b .dseq; dbn = b .dbn .0 }
+idValues (Named b s) = record {
+  number = 0;
+  section = codeOf (b .section);
+  channel = b .channel;
+  dseq = b .dseq;
+  dbn = b .dbn .0;
+  arbitrary = s .arbitrary;
+  reserved = s .reserved;
+}
 idValues Reserved = idRefusal 11
 idValues WrongLength = idRefusal 4
 

@@ -11,7 +11,8 @@ use Rattle.rules_format.specs.Systems.{positionsOf, countsOf, isCount, m
 use Rattle.rules_format.specs.Blocks
 use Rattle.rules_format.specs.Blocks.{startOf, Holds, blockAt, blockIn, sequenceAt, partAt}
 use Rattle.rules_format.specs.Places.{placeIn, codeOf, sectionOf, place, entryAt, placeFor, placeOf}
-use Rattle.rules_format.specs.Ids.{idAt, sectionBits, dseqBits, fscBit, fspBit, dbnByte, channelOf, idBytes, idOf, idAnswer, idValues}
+use Rattle.rules_format.specs.Ids.{idAt, sectionBits, dseqBits, fscBit, fspBit, dbnByte, arbitraryBits, reservedBits, channelOf, idBytes, idOf}
+use Rattle.rules_format.specs.Ids.{idAnswer, idValues}
 use Rattle.rules_format.specs.Samples.{allInRange, numberOf, inRange, sampleIn, sampleOf, wordFor, backOf, bytesOf}
 use Rattle.rules_format.specs.Sound.{difOf, halfAt, rankOf, audioOf, wordNumber, audioAt, rankAt, firstAt, sampleAt, byteOf}
 use Rattle.rules_format.specs.Faults
@@ -33,6 +34,7 @@ use Rattle.paper.specs.declared.Entry.{Entry}
 use Rattle.paper.specs.declared.Found.the-variants.{At}
 use Rattle.paper.specs.declared.Section.the-variants.{Header, Subcode, Vaux, Audio, Video}
 use Rattle.paper.specs.declared.BlockId.{BlockId}
+use Rattle.paper.specs.declared.Spare.{Spare}
 use Rattle.paper.specs.declared.IdAnswer.the-variants.{Named, Reserved, WrongLength}
 use Rattle.rules_format.specs.Faults.{faultAt, NamesPlace}
 use Rattle.rules_format.specs.Reading.{soundBlock, soundNamed, readSample, salvagedSample}
@@ -69,12 +71,14 @@ pub record IdsInNumbers : Type 0 where
   pub channels : (channelOf 0 1 ≡ 0) × (channelOf 1 1 ≡ 1) × (channelOf 0 0 ≡ 2) × (channelOf 1 0 ≡ 3)
   -- "Byte 0: section in bits 7-5 .. Byte 1: Dseq in bits 7-4, FSC bit 3, FSP bit 2. Byte 2: DBN."; "Other bits are written 1": of any block, in a frame or not
   pub bits : (id : List ℕ) → (sectionBits id ≡ getD id 0 0 / 32) × (dseqBits id ≡ getD id 1 0 / 16) × (fscBit id ≡ getD id 1 0 / 8 % 2)
-      × (fspBit id ≡ getD id 1 0 / 4 % 2) × (dbnByte id ≡ getD id 2 0)
+      × (fspBit id ≡ getD id 1 0 / 4 % 2) × (dbnByte id ≡ getD id 2 0) × (arbitraryBits id ≡ getD id 0 0 % 16)
+      × (reservedBits id ≡ getD id 0 0 / 16 % 2 * 4 + getD id 1 0 % 4)
   pub ids : (s : Section) (h q d : ℕ) → h < 4 → q < 16 → d < 256
       → idBytes (idOf h q s d) ≡ (32 * codeOf s + 31) ∷ (16 * q + 4 * channelBits h + 3) ∷ d ∷ []
   pub ids-at : (h q p : ℕ) → h < 4 → q < 16 → p < 150
       → idBytes (idAt h q (place p)) ≡ (32 * Paper.sectionAt p + 31) ∷ (16 * q + 4 * channelBits h + 3) ∷ Paper.numberAt p ∷ []
-  -- "The answer to an ID is a named block with its section, or fault 11": "5-7 reserved"; "an ID 3 bytes", else 4
+  -- "The answer to an ID is a named block with its section, or fault 11": "5-7 reserved"; "an ID 3 bytes", else 4; "the four arbitrary bits and three
+  -- reserved bits as found, beside what it names"
   pub read : (id : List ℕ) → length id ≡ 3 → getD id 0 0 / 32 < 5
       → idAnswer id ≡ Named (record {
         section = sectionOf (getD id 0 0 / 32);
@@ -82,12 +86,21 @@ pub record IdsInNumbers : Type 0 where
         dseq = getD id 1 0 / 16;
         dbn = record { 0 = getD id 2 0 };
       })
+      (record { arbitrary = getD id 0 0 % 16; reserved = getD id 0 0 / 16 % 2 * 4 + getD id 1 0 % 4 })
   pub reserved : (id : List ℕ) → length id ≡ 3 → 5 ≤ getD id 0 0 / 32 → idAnswer id ≡ Reserved
   pub wrong-length : (id : List ℕ) → length id ≢ 3 → idAnswer id ≡ WrongLength
-  pub values : (b : BlockId)
-      → (idValues (Named b) ≡ record { number = 0; section = codeOf (b .section); channel = b .channel; dseq = b .dseq; dbn = b .dbn .0 })
-      × (idValues Reserved ≡ record { number = 11; section = 0; channel = 0; dseq = 0; dbn = 0 })
-      × (idValues WrongLength ≡ record { number = 4; section = 0; channel = 0; dseq = 0; dbn = 0 })
+  pub values : (b : BlockId) (s : Spare)
+      → (idValues (Named b s) ≡ record {
+        number = 0;
+        section = codeOf (b .section);
+        channel = b .channel;
+        dseq = b .dseq;
+        dbn = b .dbn .0;
+        arbitrary = s .arbitrary;
+        reserved = s .reserved;
+      })
+      × (idValues Reserved ≡ record { number = 11; section = 0; channel = 0; dseq = 0; dbn = 0; arbitrary = 0; reserved = 0 })
+      × (idValues WrongLength ≡ record { number = 4; section = 0; channel = 0; dseq = 0; dbn = 0; arbitrary = 0; reserved = 0 })
 
 -- Places and blocks
 pub record BlocksInNumbers : Type 0 where
@@ -127,6 +140,9 @@ pub record BlocksInNumbers : Type 0 where
       → Faults.names block h q p ≡ eqb (fault (getD block 0 0) (getD block 1 0) (getD block 2 0) h q p) 0
   -- 11 to 15, of a block by its three bytes
   pub faults : (block : List ℕ) (h q p : ℕ) → 3 ≤ length block → faultAt block h q p ≡ fault (getD block 0 0) (getD block 1 0) (getD block 2 0) h q p
+  -- "Other bits are .. ignored on reading": two blocks that differ in the spare bits of their IDs have the same fault, in every place
+  pub spare : (a b : List ℕ) (h q p : ℕ) → 3 ≤ length a → 3 ≤ length b → getD a 0 0 / 32 ≡ getD b 0 0 / 32 → getD a 1 0 / 4 ≡ getD b 1 0 / 4
+      → getD a 2 0 ≡ getD b 2 0 → faultAt a h q p ≡ faultAt b h q p
 
 -- Samples, and where they stand
 pub record SoundInNumbers : Type 0 where

@@ -51,11 +51,11 @@ module _ {number : ℕ} {fs : List Fault} {list list′ : List ℕ} {r : Survey}
 
 -- an answer to an ID that refuses is told by its number
 id-told : (o o′ : IdAnswer) → idValues o .number ≢ 0 → idValues o .number ≡ idValues o′ .number → o ≡ o′
-id-told (Named b) o′ d e = absurd (d refl)
-id-told Reserved (Named b) d e = absurd (omega (arith, e))
+id-told (Named b s) o′ d e = absurd (d refl)
+id-told Reserved (Named b s) d e = absurd (omega (arith, e))
 id-told Reserved Reserved d e = refl
 id-told Reserved WrongLength d e = absurd (omega (arith, e))
-id-told WrongLength (Named b) d e = absurd (omega (arith, e))
+id-told WrongLength (Named b s) d e = absurd (omega (arith, e))
 id-told WrongLength Reserved d e = absurd (omega (arith, e))
 id-told WrongLength WrongLength d e = refl
 
@@ -73,7 +73,7 @@ id-values-answers id =
     answers (id-said-one id) (id-exactly id)
     (λ o m. ap (λ (v : IdValues). v .number) (m .answer) ∙ says-number id)
     (λ o m d. rw (m .answer) (says-quiet id (λ z. d (ap (λ (v : IdValues). v .number) (m .answer) ∙ z))))
-    (λ o o′ d e. by-number (λ r. record { number = r; section = 0; channel = 0; dseq = 0; dbn = 0 }) e)
+    (λ o o′ d e. by-number (λ r. record { number = r; section = 0; channel = 0; dseq = 0; dbn = 0; arbitrary = 0; reserved = 0 }) e)
 
 pub survey-answers : SurveyAnswers FrameSurveyed
 survey-answers k frame list =

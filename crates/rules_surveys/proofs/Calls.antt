@@ -22,7 +22,8 @@ use Rattle.paper.specs.declared.IdAnswer.{IdAnswer}
 use Rattle.paper.specs.declared.Fault.{Fault}
 use Rattle.paper.specs.declared.Survey.{Survey}
 use Rattle.rules_format.specs.Systems.{sequencesOf, systemOf}
-use Rattle.rules_format.specs.Ids.{sectionBits, dseqBits, fscBit, fspBit, dbnByte, channelOf, namedBy, idAnswer, idRefusal, idValues}
+use Rattle.rules_format.specs.Ids.{sectionBits, dseqBits, fscBit, fspBit, dbnByte, arbitraryBits, reservedBits, channelOf, namedBy, spareIn, idAnswer}
+use Rattle.rules_format.specs.Ids.{idRefusal, idValues}
 use Rattle.rules_format.specs.Blocks.{startOf, blockAt, noPart, bytesOf}
 use Rattle.rules_format.specs.Faults.{faultAt}
 use Rattle.rules_surveys.specs.Records.{width, kept, after}
@@ -47,8 +48,16 @@ module _ (id : List ℕ) where
   read-id-says-11 e r = ap idValues (read-id-11 id e r)
 
   pub read-id-says-0 : length id ≡ 3 → sectionBits id < 5
-      → idValues (idAnswer id) ≡ record { number = 0; section = sectionBits id; channel = channelOf (fscBit id) (fspBit id); dseq = dseqBits id; dbn = dbnByte id }
-  unfolding namedBy
+      → idValues (idAnswer id) ≡ record {
+        number = 0;
+        section = sectionBits id;
+        channel = channelOf (fscBit id) (fspBit id);
+        dseq = dseqBits id;
+        dbn = dbnByte id;
+        arbitrary = arbitraryBits id;
+        reserved = reservedBits id;
+      }
+  unfolding namedBy spareIn
   read-id-says-0 e s = ap idValues (read-id-0 id e s) ∙ rw (code-section (sectionBits id) s) refl
 
   -- and at once, by the refusal table

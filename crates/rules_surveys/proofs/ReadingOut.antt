@@ -15,7 +15,7 @@ use Rattle.paper.specs.declared.IdAnswer.{IdAnswer}
 use Rattle.paper.specs.declared.IdValues.{IdValues}
 use Rattle.paper.specs.declared.Part.{Part}
 use Rattle.rules_format.specs.Places.{codeOf, sectionOf}
-use Rattle.rules_format.specs.Ids.{namedBy}
+use Rattle.rules_format.specs.Ids.{namedBy, spareIn}
 use Rattle.rules_surveys.specs.ReadId.{idNumber, idSays, IdRead, IdSaid}
 use Rattle.rules_surveys.specs.View.{viewNumber, viewAt, ViewNumbered, Viewed, ViewLies}
 use Rattle.paper.specs.Paper.{sequences, start, bytesAt}
@@ -36,7 +36,7 @@ section-is : (s : ℕ) → s < 5 → sectionOf s ≡ sectionIn s
 section-is s h = code-one _ _ (code-section s h ∙ sym (eqb→eq _ _ (below-at (λ j. eqb (codeOf (sectionIn j)) j) 5 tt s h)))
 
 pub id-out : {id : List ℕ} {o : IdAnswer} {v : IdValues} → IdRead id o → IdSaid id v → IdOut id o v
-unfolding namedBy idSays
+unfolding namedBy spareIn idSays
 id-out {id} {o} {v} read said =
     record {
       wrong-length = λ d. read .answer ∙ read-id-4 id d;

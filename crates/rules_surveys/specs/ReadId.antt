@@ -9,7 +9,7 @@ use Rattle.base.specs.Calls.{firstOf, _when_}
 use Rattle.base.specs.Pick.{pick}
 use Rattle.paper.specs.declared.IdAnswer.{IdAnswer}
 use Rattle.paper.specs.declared.IdValues.{IdValues}
-use Rattle.rules_format.specs.Ids.{sectionBits, dseqBits, fscBit, fspBit, dbnByte, channelOf, idAnswer, idRefusal, idValues}
+use Rattle.rules_format.specs.Ids.{sectionBits, dseqBits, fscBit, fspBit, dbnByte, arbitraryBits, reservedBits, channelOf, idAnswer, idRefusal, idValues}
 
 -- the refusals in their order: "an ID 3 bytes"; "5-7 reserved"
 unfoldable pub idNumber : List ℕ → ℕ
@@ -22,7 +22,15 @@ idNumber id = firstOf (
 unfoldable pub idSays : List ℕ → IdValues
 idSays id =
     pick (eqb (idNumber id) 0)
-    (record { number = 0; section = sectionBits id; channel = channelOf (fscBit id) (fspBit id); dseq = dseqBits id; dbn = dbnByte id })
+    (record {
+      number = 0;
+      section = sectionBits id;
+      channel = channelOf (fscBit id) (fspBit id);
+      dseq = dseqBits id;
+      dbn = dbnByte id;
+      arbitrary = arbitraryBits id;
+      reserved = reservedBits id;
+    })
     (idRefusal (idNumber id))
 
 -- the answer as an enum

@@ -59,25 +59,27 @@ fn systems() {
     counted(System::P50);
 }
 
-fn print_values(number: u32, section: u32, channel: u32, dseq: u32, dbn: u32) {
+fn print_values(number: u32, section: u32, channel: u32, dseq: u32, dbn: u32, arbitrary: u32, reserved: u32) {
     lines::start(b"id");
     lines::field(number);
     lines::field(section);
     lines::field(channel);
     lines::field(dseq);
     lines::field(dbn);
+    lines::field(arbitrary);
+    lines::field(reserved);
     lines::end();
 }
 
-// An ID read: the number, and the values of a named block or zeros.
+// An ID read: the number, and the values of a named block with its spare bits, or zeros.
 fn id(bytes: &[u8]) {
     match layout::read_id(bytes) {
-        IdAnswer::Named(b) => {
+        IdAnswer::Named(b, spare) => {
             let section = b.section;
-            print_values(0, layout::section_code(section), b.channel, b.dseq, b.dbn.0);
+            print_values(0, layout::section_code(section), b.channel, b.dseq, b.dbn.0, spare.arbitrary, spare.reserved);
         }
-        IdAnswer::Reserved => print_values(11, 0, 0, 0, 0),
-        IdAnswer::WrongLength => print_values(4, 0, 0, 0, 0),
+        IdAnswer::Reserved => print_values(11, 0, 0, 0, 0, 0, 0),
+        IdAnswer::WrongLength => print_values(4, 0, 0, 0, 0, 0, 0),
     }
 }
 
@@ -86,6 +88,8 @@ fn ids() {
     id(&[0x9F, 0x9B, 0x86]);
     id(&[0x00, 0x00, 0x00]);
     id(&[0x7F, 0xFF, 0xFF]);
+    id(&[0x95, 0x1A, 0x86]);
+    id(&[0x2A, 0x05, 0x01]);
     bad_ids();
 }
 

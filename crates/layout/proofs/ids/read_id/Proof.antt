@@ -31,6 +31,12 @@ section-of-requires c κs = search needs
 channel-requires : tie.Need-channel-requires
 channel-requires c κs = search needs
 
+mul-reserved : tie.Need-mul-reserved
+mul-reserved c = search needs
+
+add-reserved : tie.Need-add-reserved
+add-reserved c = search needs
+
 returns-2 : tie.Need-returns-2
 returns-2 c = search (named, needs)
 
@@ -50,5 +56,7 @@ read-id-spec =
     wide-requires-3
     section-of-requires
     channel-requires
+    mul-reserved
+    add-reserved
     returns-2
     returns-3)
