@@ -54,6 +54,13 @@ module _ (b : BlockId) (h q : ℕ) (e : Entry) where
       (pick-either FaultNumber _ (inr (omega arith, omega arith))
       (inl refl))))
 
+-- ---- faultOf
+
+-- the spare bits are not asked
+pub fault-named : (b : BlockId) (s : Spare) (h q : ℕ) (e : Entry) → faultOf (Named b s) h q e ≡ misnamed b h q e
+unfolding faultOf
+fault-named b s h q e = refl
+
 -- ---- faultAt
 
 -- "A block names its place when section, channel, Dseq and DBN all do."

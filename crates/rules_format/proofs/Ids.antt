@@ -5,7 +5,7 @@ use mathlib.Core.List.{List}
 use Prim.Native.Nat.{ℕ, _+_, _*_, _/_, _≤_, _<_, _%_}
 use native.Mathlib.Omega.{arith}
 use lib.Dec.{eqb, ltb, eqb→eq}
-use lib.ListN.{length}
+use lib.ListN.{length, getD}
 use borrow.Author.Tests.{eq-eqb, ne-eqb, lt-ltb, le-ltb}
 use Rattle.base.specs.Pick.{pick}
 use Rattle.base.proofs.Picks.{pick-true, pick-false}
@@ -27,6 +27,12 @@ channel-pairs = (refl, refl, refl, refl)
 pub channel-bits : (h : ℕ) → h < 4 → channelOf (fscOf h) (fspOf h) ≡ h
 unfolding channelOf pick
 channel-bits h l = eqb→eq _ _ (below-at (λ k. eqb (channelOf (fscOf k) (fspOf k)) k) 4 tt h l)
+
+-- ---- spareIn
+
+pub spare-bits : (id : List ℕ) → spareIn id ≡ record { arbitrary = getD id 0 0 % 16; reserved = getD id 0 0 / 16 % 2 * 4 + getD id 1 0 % 4 }
+unfolding spareIn
+spare-bits id = refl
 
 -- ---- idAnswer
 
