@@ -225,7 +225,8 @@ static void set_up_buffers(void)
 {
     for (int lent = 0; lent < BUFFERS; lent++) {
         struct buffer *buffer = &buffers[lent];
-        buffer->before = allocate(whole(buffer) + GUARD); /* content may be longer than what is lent of it */
+        buffer->before = allocate(whole(buffer) + buffer->room); /* content may be longer than what is lent of it */
+        memset(buffer->before, 0, whole(buffer) + buffer->room);
         for (int side = 0; side < SIDES; side++)
             buffer->side[side] = allocate_before_wall(whole(buffer));
         renew(buffer);
