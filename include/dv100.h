@@ -51,9 +51,11 @@ extern "C" {
 /* A lost sample, where a level would be -32,768 to 32,767. */
 #define DV100_LOST 32768
 
-/* What a block ID names: section 0 header, 1 subcode, 2 VAUX, 3 audio, 4 video; DIF channel; sequence; block number. */
+/* What a block ID names: section 0 header, 1 subcode, 2 VAUX, 3 audio, 4 video; DIF channel; sequence; block number. Beside it the
+ * spare bits as found: arbitrary is bits 3-0 of byte 0; reserved is 4 times bit 4 of byte 0, plus bits 1-0 of byte 1. They name
+ * nothing: dv100_write makes them ones, and no call judges them. */
 struct dv100_id {
-    uint32_t number, section, channel, sequence, block;
+    uint32_t number, section, channel, sequence, block, arbitrary, reserved;
 };
 
 /* How many blocks do not name their place, and how many of them the fault list holds. */
@@ -77,7 +79,7 @@ struct dv100_time {
     uint8_t time_code[4], binary_group[4];
 };
 
-/* What the three bytes of a block ID name.
+/* What the three bytes of a block ID name, and their spare bits.
  * Refusals: 4 (not 3 bytes), 11. */
 struct dv100_id dv100_read_id(const uint8_t *id, size_t id_length);
 
