@@ -98,7 +98,7 @@ static bool all_name_their_place(const uint8_t *bytes, uint32_t common)
 
 struct dv100_id plain_read_id(const uint8_t *id, size_t id_length)
 {
-    struct dv100_id answer = {0, 0, 0, 0, 0};
+    struct dv100_id answer = {0};
     if (id_length != 3) {
         answer.number = 4;
     } else if (id[0] >> 5 > 4) {
@@ -108,6 +108,8 @@ struct dv100_id plain_read_id(const uint8_t *id, size_t id_length)
         answer.channel = (id[1] >> 3 & 1u) | (id[1] & 4u ? 0 : 2u);
         answer.sequence = id[1] >> 4;
         answer.block = id[2];
+        answer.arbitrary = id[0] & 0x0F;
+        answer.reserved = (id[0] >> 2 & 4u) | (id[1] & 3u);
     }
     return answer;
 }

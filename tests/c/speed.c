@@ -46,7 +46,7 @@ static void take_part(struct dv100_part answer)
 
 static void take_id(struct dv100_id answer)
 {
-    taken += answer.number + answer.section + answer.channel + answer.sequence + answer.block;
+    taken += answer.number + answer.section + answer.channel + answer.sequence + answer.block + answer.arbitrary + answer.reserved;
 }
 
 static void take_audio(struct dv100_audio answer)
