@@ -1,7 +1,7 @@
 #!/bin/bash
 # The library beside an independent decoder that follows the Recommendation's own rules (tests/c/paper.c). tests/c/agree.c compares
-# them on written and damaged frames, on the known places, on the printed rows, on audio channels marked 1111 and on replaced ones;
-# its lines have to be those of tests/c/agree.stdout, and none may say DIFFERS.
+# them on written and damaged frames, on the known places, on the printed rows, on every ID, on audio channels marked 1111 and on
+# replaced ones, and on frames with other spare bits; its lines have to be those of tests/c/agree.stdout, and none may say DIFFERS.
 set -u
 cd "$(dirname "$0")/.."
 . tests/c/env.sh

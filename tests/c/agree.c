@@ -1,11 +1,12 @@
 /* Lays the library beside an independent decoder (paper.h): frames written, frames damaged, the known places of the scope
- * paper, document 01, the printed rows of the Recommendation's tables, audio channels marked 1111, and audio channels replaced. A
- * line says "agree", or "DIFFERS" and where. */
+ * paper, document 01, the printed rows of the Recommendation's tables, audio channels marked 1111, audio channels replaced, and the
+ * bits of IDs that name nothing. A line says "agree", or "DIFFERS" and where. */
 #include "dv100.h"
 #include "paper.h"
 #include "printed.h"
 
 #include <stdarg.h>
+#include <stddef.h>
 #include <stdio.h>
 #include <string.h>
 
@@ -16,6 +17,7 @@ enum {
     MOST_PICTURE = PAPER_MOST_MACROBLOCKS * PAPER_PAYLOAD_BYTES,
     SEQUENCE_BYTES = PAPER_PLACES * PAPER_BLOCK_BYTES,
     RECORD = 4,
+    SOME_MACROBLOCKS = 12,
     LAST_REFUSAL = 33,
     UNTOUCHED = 0x5a5a5a5a
 };
@@ -734,13 +736,20 @@ static void compare_audio(const struct trial *trial, struct tally *tally)
 }
 
 /* The first macroblock, the last and ten others. */
+static void some_macroblocks(const struct trial *trial, unsigned numbers[SOME_MACROBLOCKS])
+{
+    numbers[0] = 0;
+    numbers[1] = trial->map->system->macroblocks - 1;
+    for (unsigned at = 2; at < SOME_MACROBLOCKS; at++)
+        numbers[at] = below(trial->map->system->macroblocks);
+}
+
 static void compare_macroblocks(const struct trial *trial, struct tally *tally)
 {
     unsigned due = paper_judge_picture(trial->map, trial->frame);
-    unsigned numbers[12] = {0, trial->map->system->macroblocks - 1};
-    for (unsigned at = 2; at < 12; at++)
-        numbers[at] = below(trial->map->system->macroblocks);
-    for (unsigned at = 0; at < 12; at++) {
+    unsigned numbers[SOME_MACROBLOCKS];
+    some_macroblocks(trial, numbers);
+    for (unsigned at = 0; at < SOME_MACROBLOCKS; at++) {
         unsigned start = due ? 0 : (unsigned)(paper_macroblock(trial->map, trial->frame, numbers[at]) - trial->frame);
         struct dv100_part said = dv100_macroblock(trial->system, trial->frame, trial->frame_bytes, numbers[at]);
         tell_answer(tally, said.number);
@@ -1195,6 +1204,19 @@ static int library_names(struct dv100_id said, struct paper_id due)
            said.sequence == due.dseq && said.block == due.dbn;
 }
 
+/* All that an ID answers. */
+static int library_reads(struct dv100_id said, struct paper_id named, struct paper_spare spare)
+{
+    return library_names(said, named) && said.arbitrary == spare.arb && said.reserved == spare.res;
+}
+
+/* A number, and zeros beside it. */
+static int library_refuses(struct dv100_id said, uint32_t number)
+{
+    return said.number == number &&
+           !(said.section | said.channel | said.sequence | said.block | said.arbitrary | said.reserved);
+}
+
 static int same_id(struct paper_id one, struct paper_id other)
 {
     return one.section == other.section && one.dif_channel == other.dif_channel && one.dseq == other.dseq &&
@@ -1210,7 +1232,8 @@ static void compare_known_id(const struct trial *trial, struct paper_id named, u
         dv100_view(trial->system, trial->frame, trial->frame_bytes, named.dif_channel, named.dseq, place);
     print_three_ways(
         memcmp(written, id, 3) == 0 && same_id(paper_read_id(id), named),
-        library_names(dv100_read_id(id, 3), named) && block.number == 0 && memcmp(trial->frame + block.start, id, 3) == 0,
+        library_reads(dv100_read_id(id, 3), named, (struct paper_spare){15, 7}) && block.number == 0 &&
+            memcmp(trial->frame + block.start, id, 3) == 0,
         "known %s, ID of DIF channel %u, sequence %u, section %u block %u: %02X %02X %02X", trial->map->system->name,
         named.dif_channel, named.dseq, named.section, named.dbn, id[0], id[1], id[2]);
 }
@@ -1463,19 +1486,58 @@ static void compare_segments(unsigned system)
     print_tally(&tally);
 }
 
-/* Every ID that three bytes can be. */
+/* Whether six numbers, written by Table 1, are the three bytes that they were read from. */
+static int tells_id(struct paper_id named, struct paper_spare spare, const uint8_t id[3])
+{
+    uint8_t told[3];
+    if (named.dif_channel >= PAPER_DIF_CHANNELS || spare.arb > 15 || spare.res > 7)
+        return 0;
+    paper_write_all(named, spare, told);
+    return memcmp(told, id, 3) == 0;
+}
+
+static int library_tells_id(struct dv100_id said, const uint8_t id[3])
+{
+    return tells_id((struct paper_id){said.section, said.channel, said.sequence, said.block},
+                    (struct paper_spare){said.arbitrary, said.reserved}, id);
+}
+
+/* Every ID that three bytes can be; where the section is not reserved, the answer tells all 24 bits. */
 static void compare_all_ids(void)
 {
-    struct tally tally = tally_of("IDs", "dv100_read_id");
+    struct tally read = tally_of("IDs", "dv100_read_id"), told = tally_of("IDs", "dv100_read_id, the bytes from the answer");
     for (unsigned word = 0; word < 1u << 24; word++) {
         uint8_t id[3] = {(uint8_t)(word >> 16), (uint8_t)(word >> 8), (uint8_t)word};
         struct dv100_id said = dv100_read_id(id, 3);
         struct paper_id due = paper_read_id(id);
-        int equal = due.section < PAPER_RESERVED_FROM
-                        ? library_names(said, due)
-                        : said.number == 11 && !(said.section | said.channel | said.sequence | said.block);
-        compare(&tally, equal, "%06X", word);
+        struct paper_spare spare = paper_read_spare(id);
+        require(&read, tells_id(due, spare, id), "%06X, the decoder alone", word);
+        if (due.section >= PAPER_RESERVED_FROM) {
+            compare(&read, library_refuses(said, 11), "%06X", word);
+            continue;
+        }
+        compare(&read, library_reads(said, due, spare), "%06X", word);
+        compare(&told, library_tells_id(said, id), "%06X", word);
     }
+    print_tally(&read);
+    print_tally(&told);
+}
+
+/* Other lengths, of ones and of good IDs. */
+static void compare_id_lengths(void)
+{
+    struct tally tally = tally_of("lengths", "dv100_read_id, not 3 bytes");
+    static const uint8_t bytes[2][9] = {{0xff, 0xff, 0xff, 0xff, 0xff, 0xff, 0xff, 0xff, 0xff},
+                                        {0x1f, 0x07, 0x00, 0x9f, 0x9b, 0x86, 0x75, 0x02, 0x03}};
+    for (unsigned which = 0; which < 2; which++)
+        for (unsigned length = 0; length <= sizeof bytes[which]; length++) {
+            if (length == 3)
+                continue;
+            struct dv100_id said = dv100_read_id(bytes[which], length);
+            tell_answer(&tally, said.number);
+            compare(&tally, library_refuses(said, 4), "%u bytes: %u, %u and %u", length, said.number, said.arbitrary,
+                    said.reserved);
+        }
     print_tally(&tally);
 }
 
@@ -1492,6 +1554,7 @@ static void compare_printed(struct trial *trial)
     for (unsigned system = 0; system < PAPER_SYSTEMS; system++)
         compare_segments(system);
     compare_all_ids();
+    compare_id_lengths();
 }
 
 /* ---- 5. audio channels marked 1111, invalid audio data */
@@ -1663,19 +1726,25 @@ static void compare_every_marked_size(struct trial *trial)
 
 /* What salvage and survey give of a frame. */
 struct answers {
-    struct dv100_survey salvage, survey;
-    int32_t samples[MOST_SOUND];
-    uint32_t salvage_list[RECORD * MOST_BLOCKS], survey_list[RECORD * MOST_BLOCKS];
+    struct {
+        struct dv100_survey said;
+        uint32_t list[RECORD * MOST_BLOCKS];
+    } survey;
+    struct {
+        struct dv100_survey said;
+        uint32_t list[RECORD * MOST_BLOCKS];
+        int32_t samples[MOST_SOUND];
+    } salvage;
 };
 
 static void answer(const struct trial *trial, struct answers *answers)
 {
     memset(answers, 0, sizeof *answers);
-    answers->salvage = dv100_salvage(trial->system, trial->frame, trial->frame_bytes, answers->samples,
-                                     PAPER_AUDIO_CHANNELS * trial->map->system->samples, answers->salvage_list,
-                                     RECORD * MOST_BLOCKS);
-    answers->survey =
-        dv100_survey(trial->system, trial->frame, trial->frame_bytes, answers->survey_list, RECORD * MOST_BLOCKS);
+    answers->salvage.said = dv100_salvage(trial->system, trial->frame, trial->frame_bytes, answers->salvage.samples,
+                                          PAPER_AUDIO_CHANNELS * trial->map->system->samples, answers->salvage.list,
+                                          RECORD * MOST_BLOCKS);
+    answers->survey.said =
+        dv100_survey(trial->system, trial->frame, trial->frame_bytes, answers->survey.list, RECORD * MOST_BLOCKS);
 }
 
 /* The five bytes of every pack of AAUX at random, in whatever block stands there. */
@@ -1980,6 +2049,189 @@ static void replace_and_compare(struct trial *trial, unsigned system, unsigned c
     replace_in_all_damaged(trial);
 }
 
+/* ---- 7. the bits of IDs that name nothing */
+
+/* What a frame is asked that not every frame is asked alike. */
+struct questions {
+    unsigned macroblocks[SOME_MACROBLOCKS], audio_channel;
+    struct list list;
+};
+
+static struct questions random_questions(const struct trial *trial)
+{
+    struct questions questions = {.audio_channel = 1 + below(PAPER_AUDIO_CHANNELS), .list = random_list(trial->count)};
+    some_macroblocks(trial, questions.macroblocks);
+    return questions;
+}
+
+/* What every call gives of a frame; each begins with a number, and what is not given is 0. */
+struct all_answers {
+    struct answers any_state;
+    struct {
+        struct dv100_survey said;
+        uint32_t list[RECORD * PAPER_PLACES];
+    } sequences[PAPER_DIF_CHANNELS][PAPER_MOST_SEQUENCES];
+    struct dv100_part views[PAPER_DIF_CHANNELS][PAPER_MOST_SEQUENCES][PAPER_PLACES];
+    uint32_t check;
+    struct {
+        struct dv100_audio said;
+        int32_t samples[PAPER_MOST_SAMPLES];
+    } audio[PAPER_AUDIO_CHANNELS];
+    struct dv100_part macroblocks[SOME_MACROBLOCKS];
+    struct dv100_time time;
+    struct {
+        uint32_t number;
+        uint8_t changes[MOST_FRAME]; /* each byte as it was, exclusive or as it is */
+    } replacing;
+};
+
+static void answer_sequence(const struct trial *trial, struct sequence of, struct all_answers *answers)
+{
+    unsigned i = of.dif_channel, dseq = of.dif_sequence;
+    const uint8_t *bytes = trial->frame + paper_place_start(trial->map->system, i, dseq, 0);
+    answers->sequences[i][dseq].said = dv100_survey_sequence(trial->system, i, dseq, bytes, SEQUENCE_BYTES,
+                                                             answers->sequences[i][dseq].list, RECORD * PAPER_PLACES);
+    for (unsigned place = 0; place < PAPER_PLACES; place++)
+        answers->views[i][dseq][place] = dv100_view(trial->system, trial->frame, trial->frame_bytes, i, dseq, place);
+}
+
+static void answer_reads(const struct trial *trial, const struct questions *questions, struct all_answers *answers)
+{
+    answers->check = dv100_check(trial->system, trial->frame, trial->frame_bytes);
+    for (unsigned at = 0; at < PAPER_AUDIO_CHANNELS; at++)
+        answers->audio[at].said = dv100_read_audio(trial->system, trial->frame, trial->frame_bytes, 1 + at,
+                                                   answers->audio[at].samples, trial->map->system->samples);
+    for (unsigned at = 0; at < SOME_MACROBLOCKS; at++)
+        answers->macroblocks[at] =
+            dv100_macroblock(trial->system, trial->frame, trial->frame_bytes, questions->macroblocks[at]);
+    answers->time = dv100_read_time(trial->system, trial->frame, trial->frame_bytes);
+}
+
+static void answer_replacing(const struct trial *trial, const struct questions *questions, struct all_answers *answers)
+{
+    uint8_t *changes = answers->replacing.changes;
+    memcpy(changes, trial->frame, trial->frame_bytes);
+    answers->replacing.number = dv100_replace_audio(trial->system, changes, trial->frame_bytes, questions->audio_channel,
+                                                    questions->list.samples, questions->list.length);
+    for (size_t byte = 0; byte < trial->frame_bytes; byte++)
+        changes[byte] ^= trial->frame[byte];
+}
+
+static void answer_all(const struct trial *trial, const struct questions *questions, struct all_answers *answers)
+{
+    memset(answers, 0, sizeof *answers);
+    answer(trial, &answers->any_state);
+    for (unsigned dif_channel = 0; dif_channel < PAPER_DIF_CHANNELS; dif_channel++)
+        for (unsigned dif_sequence = 0; dif_sequence < trial->map->system->dif_sequences; dif_sequence++)
+            answer_sequence(trial, (struct sequence){dif_channel, dif_sequence}, answers);
+    answer_reads(trial, questions, answers);
+    answer_replacing(trial, questions, answers);
+}
+
+#define ANSWER(call, member) {call, offsetof(struct all_answers, member), sizeof((struct all_answers *)0)->member}
+
+/* Of whole frames, as in asked: first the calls that take a frame in any state. */
+static const struct {
+    const char *call;
+    size_t from, size;
+} answered[] = {
+    ANSWER("dv100_survey", any_state.survey), ANSWER("dv100_survey_sequence", sequences),
+    ANSWER("dv100_view", views),              ANSWER("dv100_salvage", any_state.salvage),
+    ANSWER("dv100_check", check),             ANSWER("dv100_read_audio", audio),
+    ANSWER("dv100_macroblock", macroblocks),  ANSWER("dv100_read_time", time),
+    ANSWER("dv100_replace_audio", replacing),
+};
+
+enum { ANSWERED = sizeof answered / sizeof answered[0] };
+
+/* How the bits are set, in every block. */
+enum spare_bits { ZEROS, ONES, AT_RANDOM, SPARE_BITS };
+
+static struct paper_spare pick_spare(enum spare_bits bits)
+{
+    switch (bits) {
+    case ZEROS:
+        return (struct paper_spare){0, 0};
+    case ONES:
+        return (struct paper_spare){15, 7};
+    default:
+        return (struct paper_spare){below(16), below(8)};
+    }
+}
+
+static void set_spare(struct trial *trial, enum spare_bits bits, struct paper_spare set[MOST_BLOCKS])
+{
+    for (unsigned at = 0; at < blocks_in(trial); at++) {
+        uint8_t *block = trial->frame + at * PAPER_BLOCK_BYTES;
+        set[at] = pick_spare(bits);
+        paper_write_all(paper_read_id(block), set[at], block);
+    }
+}
+
+/* Tallies of a written frame's answers, and of its IDs. */
+struct spare_tallies {
+    struct tally calls[ANSWERED], ids;
+};
+
+/* Every ID answers the bits as they were set, but one of a reserved section. */
+static void compare_spare_ids(const struct trial *trial, struct tally *tally, const struct paper_spare set[MOST_BLOCKS])
+{
+    for (unsigned at = 0; at < blocks_in(trial); at++) {
+        const uint8_t *block = trial->frame + at * PAPER_BLOCK_BYTES;
+        struct dv100_id said = dv100_read_id(block, 3);
+        struct paper_id named = paper_read_id(block);
+        compare(tally,
+                named.section < PAPER_RESERVED_FROM ? library_reads(said, named, set[at]) : library_refuses(said, 11),
+                "block %u: set %u and %u, library %u and %u", at, set[at].arb, set[at].res, said.arbitrary, said.reserved);
+    }
+}
+
+/* A frame in any state, then with these bits set otherwise: each call gives the same. The lines tell a call's first number. */
+static void compare_spare(struct trial *trial, struct spare_tallies *tallies, const char *pattern)
+{
+    static struct all_answers before, after;
+    static struct paper_spare set[MOST_BLOCKS];
+    struct questions questions = random_questions(trial);
+    answer_all(trial, &questions, &before);
+    for (enum spare_bits bits = ZEROS; bits < SPARE_BITS; bits++) {
+        set_spare(trial, bits, set);
+        answer_all(trial, &questions, &after);
+        for (unsigned at = 0; at < ANSWERED; at++) {
+            const char *one = (const char *)&before + answered[at].from, *other = (const char *)&after + answered[at].from;
+            if (at >= FIRST_JUDGING)
+                tell_answer(&tallies->calls[at], *(const uint32_t *)(const void *)other);
+            compare(&tallies->calls[at], memcmp(one, other, answered[at].size) == 0, "%s, bits %u", pattern, bits);
+        }
+        compare_spare_ids(trial, &tallies->ids, set);
+    }
+}
+
+/* A written frame, and each damage to it. */
+static void spare_and_compare(struct trial *trial, unsigned system, unsigned count)
+{
+    struct spare_tallies tallies;
+    set_up(trial, system, count);
+    tallies.ids = tally_of_trial(trial, "IDs", "other spare bits, dv100_read_id");
+    for (unsigned at = 0; at < ANSWERED; at++)
+        tallies.calls[at] = tally_of("frames", "%s, %u samples, other spare bits, %s", trial->map->system->name, count,
+                                     answered[at].call);
+    write_undamaged(trial);
+    compare_spare(trial, &tallies, "undamaged");
+    for (unsigned at = 0; at < sizeof block_patterns / sizeof block_patterns[0]; at++) {
+        memcpy(trial->frame, undamaged, trial->frame_bytes);
+        block_patterns[at].damage(trial);
+        compare_spare(trial, &tallies, block_patterns[at].name);
+    }
+    for (unsigned at = 0; at < CAUSES; at++) {
+        memcpy(trial->frame, undamaged, trial->frame_bytes);
+        causes[at].damage(trial, causes[at].step);
+        compare_spare(trial, &tallies, "a cause of a refusal");
+    }
+    print_tally(&tallies.ids);
+    for (unsigned at = 0; at < ANSWERED; at++)
+        print_tally(&tallies.calls[at]);
+}
+
 /* ---- */
 
 static void compare_count(struct trial *trial, unsigned system, unsigned count)
@@ -2018,6 +2270,10 @@ int main(void)
         for (unsigned which = 0; which < 2; which++)
             if (maps[system].system->counts[which] > 0)
                 replace_and_compare(&trial, system, maps[system].system->counts[which]);
+    for (unsigned system = 0; system < PAPER_SYSTEMS; system++)
+        for (unsigned which = 0; which < 2; which++)
+            if (maps[system].system->counts[which] > 0)
+                spare_and_compare(&trial, system, maps[system].system->counts[which]);
     print_numbers_met();
     print_met("dv100_replace_audio", replacing_met);
     return lines_that_differ > 0;

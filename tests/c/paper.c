@@ -75,13 +75,25 @@ struct paper_id paper_read_id(const uint8_t id[3])
     return (struct paper_id){id[0] >> 5, dif_channel_of(id[1] >> 3 & 1, id[1] >> 2 & 1), id[1] >> 4, id[2]};
 }
 
-/* Table 1, with Res and Arb bits 1. */
-void paper_write_id(struct paper_id named, uint8_t id[3])
+/* Table 1: Arb is the low half of ID0; Res is bit 4 of ID0 and bits 1 and 0 of ID1. */
+struct paper_spare paper_read_spare(const uint8_t id[3])
+{
+    return (struct paper_spare){id[0] & 0xf, (id[0] >> 4 & 1) << 2 | (id[1] >> 1 & 1) << 1 | (id[1] & 1)};
+}
+
+/* Table 1. */
+void paper_write_all(struct paper_id named, struct paper_spare spare, uint8_t id[3])
 {
     const unsigned *fsc_fsp = table_5[named.dif_channel];
-    id[0] = (uint8_t)(named.section << 5 | 0x1f);
-    id[1] = (uint8_t)(named.dseq << 4 | fsc_fsp[0] << 3 | fsc_fsp[1] << 2 | 3);
+    id[0] = (uint8_t)(named.section << 5 | (spare.res >> 2) << 4 | spare.arb);
+    id[1] = (uint8_t)(named.dseq << 4 | fsc_fsp[0] << 3 | fsc_fsp[1] << 2 | (spare.res & 3));
     id[2] = (uint8_t)named.dbn;
+}
+
+/* § 3.3.1: "Default value shall be set to 1". */
+void paper_write_id(struct paper_id named, uint8_t id[3])
+{
+    paper_write_all(named, (struct paper_spare){0xf, 7}, id);
 }
 
 struct paper_id paper_id_of_place(const struct paper_map *map, unsigned dif_channel, unsigned dif_sequence, unsigned place)

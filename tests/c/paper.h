@@ -8,6 +8,7 @@
  * - 32,768 for a lost sample, also for each sample of an audio channel whose AS packs all say invalid audio data, and the
  *   zeros that are written from the count on;
  * - fault and refusal numbers, what each is given for, their order, and which bits are judged;
+ * - that an ID's bits which name nothing are answered, and as which two numbers;
  * - bit 6 of the time code's PC1 at 50 Hz, which is not compared and is answered as 1;
  * - FFh as PC4 of VS; VSC and ASC as a header and four FFh. */
 #ifndef PAPER_H
@@ -58,6 +59,11 @@ struct paper_id {
     unsigned section, dif_channel, dseq, dbn;
 };
 
+/* The bits of an ID that name nothing: Table 1's Arb, and its Res, that of ID0 above those of ID1. */
+struct paper_spare {
+    unsigned arb, res;
+};
+
 /* Where the two bytes of a sample lie: § 3.6.2.2. The least significant byte follows the most significant. */
 struct paper_sample_place {
     unsigned dif_channel, dif_sequence, audio_dif_block, byte;
@@ -93,8 +99,10 @@ unsigned paper_frame_bytes(const struct paper_system *system);
 unsigned paper_place_start(const struct paper_system *system, unsigned dif_channel, unsigned dif_sequence, unsigned place);
 unsigned paper_block_start(const struct paper_map *map, struct paper_id id);
 
-/* An ID read, and written with every other bit 1. */
+/* All bits of an ID read, and written; and written with every bit 1 that names nothing, the default. */
 struct paper_id paper_read_id(const uint8_t id[3]);
+struct paper_spare paper_read_spare(const uint8_t id[3]);
+void paper_write_all(struct paper_id named, struct paper_spare spare, uint8_t id[3]);
 void paper_write_id(struct paper_id named, uint8_t id[3]);
 
 /* The ID that belongs to a place. */
