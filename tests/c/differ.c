@@ -1,5 +1,6 @@
-/* differ [CASES [SEED]]: the library beside plain.c. Each case makes a frame (written, damaged or rubbish) and asks all eleven
- * calls of both sides, with copies of every lent buffer. Answers and buffers, with what lies around them, have to be the same. */
+/* differ [CASES [SEED]]: the library beside plain.c. Each case makes a frame (written, damaged or rubbish, with any spare bits in
+ * its IDs) and asks all eleven calls of both sides, with copies of every lent buffer. Answers and buffers, with what lies around
+ * them, have to be the same. */
 #define _DEFAULT_SOURCE
 #include "plain.h"
 
@@ -766,6 +767,19 @@ static void give_packs(struct scene *scene, uint8_t *bytes, uint32_t unused)
     vs[3] = (uint8_t)((vs[3] & 0xC0) | (at_50_hz(scene->made) ? 0x20 : 0) | (scene->made < 2 ? 0x14 : 0x18));
 }
 
+/* value: bits 4-0 are put in byte 0 of every ID and 6-5 in byte 1; of ANY_SPARE each block has its own. */
+enum { SPARE_VALUES = 128, ANY_SPARE = SPARE_VALUES };
+
+static void give_spare_bits(struct scene *scene, uint8_t *bytes, uint32_t value)
+{
+    (void)scene;
+    for (uint32_t place = 0; place < PLACES; place++, bytes += BLOCK) {
+        uint32_t bits = value == ANY_SPARE ? below(SPARE_VALUES) : value;
+        bytes[0] = (uint8_t)((bytes[0] & 0xE0) | (bits & 0x1F));
+        bytes[1] = (uint8_t)((bytes[1] & 0xFC) | bits >> 5);
+    }
+}
+
 static void make_rubbish(struct scene *scene)
 {
     uint32_t kind = below(5);
@@ -819,6 +833,8 @@ static void make_frame(struct scene *scene)
         make_rubbish(scene);
     } else {
         memcpy(content(FRAME), pool[scene->made][kept], frame_size(scene->made));
+        if (percent(50))
+            everywhere(scene, give_spare_bits, percent(50) ? ANY_SPARE : percent(50) ? below(SPARE_VALUES) : 0);
         if (kind >= 20 && kind < 50)
             damage_blocks(scene);
         if (kind >= 45)
@@ -941,7 +957,7 @@ static uint32_t make_lent(uint32_t like)
 /* ---- The eleven calls on both sides */
 
 static const char *only_number[] = {"number"};
-static const char *id_fields[] = {"number", "section", "channel", "sequence", "block"};
+static const char *id_fields[] = {"number", "section", "channel", "sequence", "block", "arbitrary", "reserved"};
 static const char *survey_fields[] = {"number", "total", "kept"};
 static const char *part_fields[] = {"number", "start", "length"};
 static const char *audio_fields[] = {"number", "count"};
@@ -954,8 +970,9 @@ static void ask_read_id(void)
     size_t length = elements(ID);
     ask("read_id, %zu bytes", length);
     struct dv100_id library = dv100_read_id(lend(ID, LIBRARY), length), plain = plain_read_id(lend(ID, PLAIN), length);
-    uint32_t said[] = {library.number, library.section, library.channel, library.sequence, library.block};
-    uint32_t wanted[] = {plain.number, plain.section, plain.channel, plain.sequence, plain.block};
+    uint32_t said[] = {library.number, library.section,   library.channel, library.sequence,
+                       library.block,  library.arbitrary, library.reserved};
+    uint32_t wanted[] = {plain.number, plain.section, plain.channel, plain.sequence, plain.block, plain.arbitrary, plain.reserved};
     answered(READ_ID, id_fields, said, wanted, COUNT(said));
     unchanged(ID);
 }
@@ -1647,6 +1664,7 @@ static void sweep_frame(uint32_t system)
     };
     set_length(FRAME, frame_size(system));
     memcpy(content(FRAME), pool[system][0], frame_size(system));
+    everywhere(&scenes[0], give_spare_bits, ANY_SPARE);
     share(FRAME, frame_size(system));
     set_length(SAMPLES, facts[system].positions);
     make_new_samples(count_in(&scenes[0], 1));
