@@ -112,6 +112,21 @@ heard made3
 expect "made by ffmpeg and read by ffmpeg, ${names[3]}" '11640 of 76800 samples wrong, 0 unexplained' \
     "$(job own made3.1 made3.2 made3.3 made3.4)" 'with that step it has places for 1629 of 1920 samples, and 0 for the other 291'
 
+# ---- the spare bits of ffmpeg's IDs, and of ours
+# spare_bits FRAMES SEQUENCES LOW HIGH: LOW the arbitrary bits of header and subcode, HIGH those of the other sections
+spare_bits() {
+    local s=$(($1 * $2 * 4))
+    echo "header $3 and 7 in $s; subcode $3 and 7 in $((2 * s)); VAUX $4 and 7 in $((3 * s)); audio $4 and 7 in $((9 * s));" \
+        "video $4 and 7 in $((135 * s))"
+}
+for s in 0 1 2 3; do
+    n=$((s % 2 ? 12 : 10))
+    expect "arbitrary and reserved bits of IDs made by ffmpeg, ${names[s]}" "$(spare_bits 5 $n 15 6)" "$(job spare $s <made$s)" \
+        'it writes 0110 in VAUX, audio and video, where our writer has ones'
+    job write $s 0 $((s % 2 ? 1920 : 1600)) >ours
+    expect "arbitrary and reserved bits of our IDs, ${names[s]}" "$(spare_bits 1 $n 15 15)" "$(job spare $s <ours)"
+done
+
 # ---- ffmpeg's macroblocks in our frames: it decodes the same pictures, so the slots that carry none are those that it leaves out
 decoded() { ffmpeg -nostdin -v quiet -i "$1" -map 0:v -frames:v "$2" -f framemd5 - | grep -v '^#'; }
 for s in 0 1 2 3; do

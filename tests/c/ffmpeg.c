@@ -140,6 +140,28 @@ static int find(uint32_t system)
     return 0;
 }
 
+/* spare SYSTEM: the arbitrary and the reserved bits in the IDs of each section, and in how many blocks of the frames */
+static int spare(uint32_t system)
+{
+    static const char *const sections[5] = {"header", "subcode", "VAUX", "audio", "video"};
+    uint32_t met[5][16][8] = {0};
+    while (get_frame(system))
+        for (size_t block = 0; block < frame_length(system); block += 80) {
+            struct dv100_id id = dv100_read_id(frame + block, 3);
+            if (id.number || id.arbitrary > 15 || id.reserved > 7)
+                return 1;
+            met[id.section][id.arbitrary][id.reserved]++;
+        }
+    for (uint32_t section = 0; section < 5; section++) {
+        printf("%s%s", section ? "; " : "", sections[section]);
+        for (uint32_t bits = 0; bits < 128; bits++)
+            if (met[section][bits / 8][bits % 8])
+                printf(" %u and %u in %u", bits / 8, bits % 8, met[section][bits / 8][bits % 8]);
+    }
+    printf("\n");
+    return 0;
+}
+
 /* LF to 0 in the AS packs of a sequence, and in the first half of the sequences the binary groups that ffmpeg leaves out */
 static void mend_sequence(uint8_t *sequence, int first_half)
 {
@@ -387,6 +409,8 @@ int main(int words, char **word)
         return make_frames(first, second, words - 4, word + 4);
     if (!strcmp(job, "find") && words == 3)
         return find(first);
+    if (!strcmp(job, "spare") && words == 3)
+        return spare(first);
     if (!strcmp(job, "mend") && words == 3)
         return mend(first);
     if (!strcmp(job, "replace") && words == 5)
