@@ -162,6 +162,35 @@ module _ {v : IdValues} (w : Values v) where
         reserved = v .reserved;
       })
 
+-- ---- SameButSpare: the spare bits of any block may be anything
+
+module _ (m : ℕ) (f : List ℕ) (j s r : ℕ) (hs : s < 32) (hr : r < 4) (within : j * 80 + 1 < length f) where
+  abbrev first-set : List ℕ
+  first-set = set f (j * 80) (getD f (j * 80) 0 / 32 * 32 + s)
+
+  abbrev both-set : List ℕ
+  both-set = set first-set (j * 80 + 1) (getD f (j * 80 + 1) 0 / 4 * 4 + r)
+
+  first-length : length first-set ≡ length f
+  first-length = length-set f (j * 80) _
+
+  else : (i : ℕ) → i ≢ j * 80 → i ≢ j * 80 + 1 → getD both-set i 0 ≡ getD f i 0
+  else i d e = getD-set-other first-set (j * 80 + 1) i _ 0 e ∙ getD-set-other f (j * 80) i _ 0 d
+
+  pub spare-free : SameButSpare m f both-set
+  spare-free = record {
+    size = length-set first-set (j * 80 + 1) _ ∙ first-length;
+    section = λ i hi.
+        by-eq i j
+        (λ own. rw own (ap (λ (x : ℕ). x / 32) (getD-set-other first-set (j * 80 + 1) (j * 80) _ 0 (λ z. omega (arith, z)) ∙ getD-set-same f (j * 80) _ 0 (omega arith)) ∙ omega arith))
+        (λ d. ap (λ (x : ℕ). x / 32) (else (i * 80) (λ z. d (omega (arith, z))) (λ z. omega (arith, z))));
+    second = λ i hi.
+        by-eq i j
+        (λ own. rw own (ap (λ (x : ℕ). x / 4) (getD-set-same first-set (j * 80 + 1) _ 0 (omega (arith, first-length))) ∙ omega arith))
+        (λ d. ap (λ (x : ℕ). x / 4) (else (i * 80 + 1) (λ z. omega (arith, z)) (λ z. d (omega (arith, z)))));
+    others = λ i b hi low hb. else (i * 80 + b) (λ z. omega (arith, z, low, hb)) (λ z. omega (arith, z, low, hb));
+  }
+
 -- ---- SameButSpare: what the calls go by is the same
 
 pub spare-refl : {m : ℕ} {f : List ℕ} → SameButSpare m f f
@@ -225,33 +254,4 @@ module _ {m k : ℕ} {f g : List ℕ} {c : ℕ} {samples : List ℤ} {f′ g′ 
     section = λ j hj. rw (first-kept j .0, first-kept j .1) (s .section j hj);
     second = λ j hj. rw (head-same x y known c1 c8 few j 1 (omega arith), head-same x′ y known c1 c8 few′ j 1 (omega arith)) (s .second j hj);
     others = λ j b hj low hb. exchanged-byte x x′ (j * 80 + b) (s .others j b hj low hb);
-  }
-
--- ---- SameButSpare: the spare bits of any block may be anything
-
-module _ (m : ℕ) (f : List ℕ) (j s r : ℕ) (hs : s < 32) (hr : r < 4) (within : j * 80 + 1 < length f) where
-  abbrev first-set : List ℕ
-  first-set = set f (j * 80) (getD f (j * 80) 0 / 32 * 32 + s)
-
-  abbrev both-set : List ℕ
-  both-set = set first-set (j * 80 + 1) (getD f (j * 80 + 1) 0 / 4 * 4 + r)
-
-  first-length : length first-set ≡ length f
-  first-length = length-set f (j * 80) _
-
-  else : (i : ℕ) → i ≢ j * 80 → i ≢ j * 80 + 1 → getD both-set i 0 ≡ getD f i 0
-  else i d e = getD-set-other first-set (j * 80 + 1) i _ 0 e ∙ getD-set-other f (j * 80) i _ 0 d
-
-  pub spare-free : SameButSpare m f both-set
-  spare-free = record {
-    size = length-set first-set (j * 80 + 1) _ ∙ first-length;
-    section = λ i hi.
-        by-eq i j
-        (λ own. rw own (ap (λ (x : ℕ). x / 32) (getD-set-other first-set (j * 80 + 1) (j * 80) _ 0 (λ z. omega (arith, z)) ∙ getD-set-same f (j * 80) _ 0 (omega arith)) ∙ omega arith))
-        (λ d. ap (λ (x : ℕ). x / 32) (else (i * 80) (λ z. d (omega (arith, z))) (λ z. omega (arith, z))));
-    second = λ i hi.
-        by-eq i j
-        (λ own. rw own (ap (λ (x : ℕ). x / 4) (getD-set-same first-set (j * 80 + 1) _ 0 (omega (arith, first-length))) ∙ omega arith))
-        (λ d. ap (λ (x : ℕ). x / 4) (else (i * 80 + 1) (λ z. omega (arith, z)) (λ z. d (omega (arith, z)))));
-    others = λ i b hi low hb. else (i * 80 + b) (λ z. omega (arith, z, low, hb)) (λ z. omega (arith, z, low, hb));
   }
