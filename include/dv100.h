@@ -53,7 +53,8 @@ extern "C" {
 
 /* What a block ID names: section 0 header, 1 subcode, 2 VAUX, 3 audio, 4 video; DIF channel; sequence; block number. Beside it the
  * spare bits as found: arbitrary is bits 3-0 of byte 0; reserved is 4 times bit 4 of byte 0, plus bits 1-0 of byte 1. They name
- * nothing: dv100_write makes them ones, and no call judges them. */
+ * nothing: dv100_write makes them ones, and no call judges them. Any three bytes may be asked, those of a block that a view refuses
+ * too; of a reserved section nothing is told but 11. */
 struct dv100_id {
     uint32_t number, section, channel, sequence, block, arbitrary, reserved;
 };

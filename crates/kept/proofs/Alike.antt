@@ -42,10 +42,10 @@ use Rattle.rules_reads.proofs.Macroblock.{macroblock-lies-number}
 
 -- ---- one call on two inputs: where the table of the one gives what that of the other gives, a refusal is the same
 
-pub alike : {Outcome : Type 0} {Meets Meets′ : Outcome → Type 0} {answered : Outcome → ℕ} {table table′ : Table} {Quiet : Outcome → Type 0} {o o′ : Outcome}
+pub same-outcome : {Outcome : Type 0} {Meets Meets′ : Outcome → Type 0} {answered : Outcome → ℕ} {table table′ : Table} {Quiet : Outcome → Type 0} {o o′ : Outcome}
     → Answers Outcome Meets answered table Quiet → Answers Outcome Meets′ answered table′ Quiet → Gives (answered o) table table′ → Meets o → Meets′ o′
     → (answered o ≡ 0 → answered o′ ≡ 0 → o ≡ o′) → o ≡ o′
-alike {answered = answered} {o = o} {o′ = o′} a a′ gives m m′ zero =
+same-outcome {answered = answered} {o = o} {o′ = o′} a a′ gives m m′ zero =
     let same : answered o ≡ answered o′ = a′ .no-other o′ m′ (answered o) (gives .too (a .numbered o m)) in
     by-eq (answered o) 0 (λ z. zero z (sym same ∙ z)) (λ d. a .told o o′ d same (a .refused o m d) (a′ .refused o′ m′ (λ z. d (same ∙ z))))
 
@@ -96,7 +96,7 @@ pub same-audio : {k : ℕ} {f g : List ℕ} {c : ℕ} {samples heard heard′ : 
     → (0 < c → c < 9 → SameWords k f g c) → AudioRead k f c samples r heard → AudioRead k g c samples r′ heard′ → (r ≡ r′) × (heard ≡ heard′)
 same-audio {k} {f} {g} {c} {samples} {heard} {heard′} {r} {r′} s a w read read′ =
     let e : _≡_ {A = AudioAnswer × List ℤ} (r, heard) (r′, heard′) =
-    alike (reads.audio-answers k f c samples) (reads.audio-answers k g c samples) (audio-gives s a) read read′ (λ z z′.
+    same-outcome (reads.audio-answers k f c samples) (reads.audio-answers k g c samples) (audio-gives s a) read read′ (λ z z′.
     let out = audio-out read in
     let out′ = audio-out read′ in
     let below = read-system read z in
@@ -124,13 +124,13 @@ same-audio {k} {f} {g} {c} {samples} {heard} {heard′} {r} {r′} s a w read re
 -- ---- the calls that do not look behind the ID of an audio block, and salvage
 
 pub same-check : {k : ℕ} {f g : List ℕ} {r r′ : ℕ} → Alike k f g → Checked k f r → Checked k g r′ → r ≡ r′
-same-check {k} {f} {g} s a a′ = alike (reads.check-answers k f) (reads.check-answers k g) (check-gives s) a a′ (λ z z′. z ∙ sym z′)
+same-check {k} {f} {g} s a a′ = same-outcome (reads.check-answers k f) (reads.check-answers k g) (check-gives s) a a′ (λ z z′. z ∙ sym z′)
 
 pub same-survey : {k : ℕ} {f g list list₁ list₂ : List ℕ} {r r′ : Survey} → Alike k f g → FrameSurveyed k f list r list₁ → FrameSurveyed k g list r′ list₂
     → (r ≡ r′) × (list₁ ≡ list₂)
 same-survey {k} {f} {g} {list} {list₁} {list₂} {r} {r′} s a a′ =
     let e : _≡_ {A = Survey × List ℕ} (r, list₁) (r′, list₂) =
-    alike (surveys.survey-answers k f list) (surveys.survey-answers k g list) (survey-gives s) a a′ (λ z z′.
+    same-outcome (surveys.survey-answers k f list) (surveys.survey-answers k g list) (survey-gives s) a a′ (λ z z′.
     let one = listed-one (listed-same (s .faults) (surveys.surveys-listed k a z)) (surveys.surveys-listed k a′ z′) (z ∙ sym z′) in
     λ i. (one .0 i, one .1 i)) in
     two-parts e
@@ -139,7 +139,7 @@ pub same-salvage : {k : ℕ} {f g : List ℕ} {samples samples₁ samples₂ : L
     → ((c : ℕ) → 0 < c → c < 9 → SameWords k f g c) → Salvaged k f samples list r samples₁ list₁ → Salvaged k g samples list r′ samples₂ list₂ → (r ≡ r′) × (samples₁ ≡ samples₂) × (list₁ ≡ list₂)
 same-salvage {k} {f} {g} {samples} {samples₁} {samples₂} {list} {list₁} {list₂} {r} {r′} s words a a′ =
     let e : _≡_ {A = Survey × List ℤ × List ℕ} (r, samples₁, list₁) (r′, samples₂, list₂) =
-    alike (surveys.salvage-answers k f samples list) (surveys.salvage-answers k g samples list) (salvage-gives s) a a′ (λ z z′.
+    same-outcome (surveys.salvage-answers k f samples list) (surveys.salvage-answers k g samples list) (salvage-gives s) a a′ (λ z z′.
     let one = listed-one (listed-same (s .faults) (surveys.salvages-listed k a z)) (surveys.salvages-listed k a′ z′) (z ∙ sym z′) in
     let heard = salvage-out-one (salvage-out-same s words (surveys.salvages-out k a z)) (surveys.salvages-out k a′ z′) in
     λ i. (one .0 i, heard i, one .1 i)) in
@@ -155,7 +155,7 @@ same-view {k} {f} {g} {h} {q} {p} {r} {r′} s a a′ =
 
 pub same-view-at : {k : ℕ} {f g : List ℕ} {h q : ℕ} {p : Place} {r r′ : Part} → Alike k f g → ViewLies k f h q p r → ViewLies k g h q p r′ → r ≡ r′
 same-view-at {k} {f} {g} {h} {q} {p} s a a′ =
-    alike (surveys.view-at-answers k f h q p) (surveys.view-at-answers k g h q p) (view-gives h q (p .0) s) a a′ (λ z z′.
+    same-outcome (surveys.view-at-answers k f h q p) (surveys.view-at-answers k g h q p) (view-gives h q (p .0) s) a a′ (λ z z′.
     surveys.views-out (view-number-one k f h q p .meets) (view-one k f h q p .meets) a .lies z
     ∙ sym (surveys.views-out (view-number-one k g h q p .meets) (view-one k g h q p .meets) a′ .lies z′))
 
@@ -163,7 +163,7 @@ pub same-macroblock : {k : ℕ} {f g : List ℕ} {b number number′ : ℕ} {par
     → MacroblockNumbered k g b number′ → MacroblockRead k g b part′ → (number ≡ number′) × (part ≡ part′)
 same-macroblock {k} {f} {g} {b} {number} {number′} {part} {part′} s n a n′ a′ =
     let e : _≡_ {A = ℕ × List ℕ} (number, part) (number′, part′) =
-    alike (reads.macroblock-answers k f b) (reads.macroblock-answers k g b) (macroblock-gives s) (n, a) (n′, a′) (λ z z′.
+    same-outcome (reads.macroblock-answers k f b) (reads.macroblock-answers k g b) (macroblock-gives s) (n, a) (n′, a′) (λ z z′.
     let slot = slot-of k b (read-below k f b (sym (n .answer) ∙ z)) in
     let v = 5 * slot .g + slot .m in
     let lies : v < 135 = omega (arith, slot .group, slot .unit) in
@@ -176,7 +176,7 @@ same-macroblock {k} {f} {g} {b} {number} {number′} {part} {part′} s n a n′
 
 pub same-macroblock-at : {k : ℕ} {f g : List ℕ} {b : ℕ} {r r′ : Part} → Alike k f g → MacroblockLies k f b r → MacroblockLies k g b r′ → r ≡ r′
 same-macroblock-at {k} {f} {g} {b} s a a′ =
-    alike (reads.macroblock-at-answers k f b) (reads.macroblock-at-answers k g b) (macroblock-gives s) a a′ (λ z z′.
+    same-outcome (reads.macroblock-at-answers k f b) (reads.macroblock-at-answers k g b) (macroblock-gives s) a a′ (λ z z′.
     let out = reads.macroblocks-out a in
     let out′ = reads.macroblocks-out a′ in
     let slot = slot-of k b (read-below k f b (sym (macroblock-lies-number k f b a) ∙ z)) in
@@ -185,7 +185,7 @@ same-macroblock-at {k} {f} {g} {b} s a a′ =
 
 pub same-time : {k : ℕ} {f g : List ℕ} {r r′ : TimeAnswer} → Alike k f g → TimeRead k f r → TimeRead k g r′ → r ≡ r′
 same-time {k} {f} {g} {r} {r′} s a a′ =
-    alike (reads.time-answers k f) (reads.time-answers k g) (time-gives s) a a′ (λ z z′.
+    same-outcome (reads.time-answers k f) (reads.time-answers k g) (time-gives s) a a′ (λ z z′.
     let rows = first-rows (subst (timeTable k f) z (reads.time-answers k f .numbered r a)) in
     let some = some-sequence k (rows .0) .0 in
     let out = time-out a in

@@ -44,7 +44,7 @@ use Rattle.promises.specs.Unrecorded.{Marks, every, ComesBackLost, SameButAudio
 use Rattle.promises.specs.Form.{HasForm}
 use Rattle.promises.specs.Refusals.{SomeOutside, modeStored, listTable}
 use Rattle.promises.specs.Commentary.{Exchanged, HeardAgain, SalvagedAgain, SoundBytes, FrameHolds, Changed}
-use Rattle.promises.specs.SpareBits.{WithSection, Values, told, SameButSpare}
+use Rattle.promises.specs.SpareBits.{WithSection, Answerable, told, SameButSpare}
 use Rattle.promises.proofs.Unrecorded.{marks-aaux}
 use Rattle.kept.proofs.Deciding.{ids-decided, views-decided, macroblocks-decided, reads-decided}
 use Rattle.kept.proofs.WritingBack.{writes-back, strict-decided, frame-decided}
@@ -58,7 +58,7 @@ use Rattle.promises.proofs.Apart.{apart-alike, aaux-words}
 use Rattle.promises.proofs.SpareBits.{spare-alike, spare-as, spare-words}
 use Rattle.kept.proofs.Commentary.{heard-again, alike-after, others-again, salvaged-again, made-again, form-made, form-ours}
 use Rattle.kept.proofs.Commentary.{taken-when, refused-when, refused-then, ours-taken, ours-form, silenced, left-alone}
-use Rattle.kept.proofs.SpareBits.{said-told, read-told, said-only, values-said, one-answer, ones-written, same-viewed, same-sequence, same-replaced}
+use Rattle.kept.proofs.SpareBits.{said-told, read-told, said-only, values-said, one-answer, known-answer, ones-written, same-viewed, same-sequence, same-replaced}
 use Rattle.rules_format.specs.Ids.{idValues}
 use Rattle.rules_format.proofs.Headlines as format
 use Rattle.rules_picture.proofs.Headlines as picture
@@ -361,23 +361,28 @@ one-changed = promised.one-changed
 
 -- "The ID answer must carry the four arbitrary bits and three reserved bits as found, beside what it names.": three bytes with a section are told back, bit
 -- for bit, by the values of their answer, and by the answer
-pub spare-told : {id : List ℕ} {v : IdValues} → IdSaid id v → WithSection id → Values v × (told v ≡ id)
+pub spare-told : {id : List ℕ} {v : IdValues} → IdSaid id v → WithSection id → Answerable v × (told v ≡ id)
 spare-told = said-told
 
 pub spare-told-answer : {id : List ℕ} {o : IdAnswer} → IdRead id o → WithSection id → told (idValues o) ≡ id
 spare-told-answer = read-told
 
--- no others are
+-- no others are: what a refusal answers tells its number and nothing of the bytes (`demand-1`)
 pub spare-told-only : {id : List ℕ} {v : IdValues} → IdSaid id v → told v ≡ id → (length id ≡ 3) × (getD id 0 0 / 32 < 5)
 spare-told-only = said-only
 
 -- and all values that an answer can have are those of the three bytes that they tell
-pub spare-values : {v : IdValues} → Values v → WithSection (told v) × ((v′ : IdValues) → IdSaid (told v) v′ → v′ ≡ v)
+pub spare-values : {v : IdValues} → Answerable v → WithSection (told v) × ((v′ : IdValues) → IdSaid (told v) v′ → v′ ≡ v)
 spare-values = values-said
 
--- spare bits answered as ones, or as anything but what they are: two IDs with one answer
+-- no bit is masked: two IDs with a section that have one answer are one
 pub not-masked : {id id′ : List ℕ} {v : IdValues} → WithSection id → WithSection id′ → IdSaid id v → IdSaid id′ v → id ≡ id′
 not-masked = one-answer
+
+-- which bit is which, in an ID whose spare bits differ
+pub spare-known : {v : IdValues} → IdSaid (0x95 ∷ 0x1A ∷ 0x86 ∷ []) v
+    → v ≡ record { number = 0; section = 4; channel = 3; dseq = 1; dbn = 134; arbitrary = 5; reserved = 6 }
+spare-known = known-answer
 
 -- what our writer made answers ones
 pub spare-written : {k : ℕ} {l : Contents} {frame f : List ℕ} → Wrote k l frame 0 f → (h q p : ℕ) → h < 4 → q < sequences k → p < 150
@@ -391,7 +396,7 @@ module _ (k : ℕ) {f g : List ℕ} (same : SameButSpare (600 * sequences k) f g
   pub spare-check : {r r′ : ℕ} → Checked k f r → Checked k g r′ → r ≡ r′
   spare-check = same-check (spare-alike same)
 
-  -- the part is the block as it stands
+  -- the part is the block, with its own spare bits
   pub spare-view : {h q : ℕ} {p : Place} {r r′ : ℕ} {part part′ : List ℕ} → ViewNumbered k f h q p r → Viewed k f h q p part → ViewNumbered k g h q p r′
       → Viewed k g h q p part′ → (r ≡ r′) × SameButSpare 1 part part′
   spare-view = same-viewed same
@@ -420,7 +425,7 @@ module _ (k : ℕ) {f g : List ℕ} (same : SameButSpare (600 * sequences k) f g
   pub spare-time : {r r′ : TimeAnswer} → TimeRead k f r → TimeRead k g r′ → r ≡ r′
   spare-time = same-time (spare-alike same)
 
-  -- a replaced channel leaves the spare bits as they stand
+  -- and so do the frames after
   pub spare-replace : {c : ℕ} {samples : List ℤ} {r r′ : ℕ} {f′ g′ : List ℕ} → Replaced k f c samples r f′ → Replaced k g c samples r′ g′
       → (r ≡ r′) × SameButSpare (600 * sequences k) f′ g′
   spare-replace = same-replaced same
@@ -429,10 +434,16 @@ pub spare-sequence : (k h q : ℕ) {f g list list₁ list₂ : List ℕ} {r r′
     → SequenceSurveyed k h q g list r′ list₂ → (r ≡ r′) × (list₁ ≡ list₂)
 spare-sequence = same-sequence
 
--- the spare bits of any block may be anything
+-- the three bytes may be any with a section; and the spare bits of a block anything, of one block after the other
+pub any-section : (a b c : ℕ) → a < 160 → b < 256 → c < 256 → WithSection (a ∷ b ∷ c ∷ [])
+any-section = promised.any-section
+
 pub any-spare : (m : ℕ) (f : List ℕ) (j s r : ℕ) → s < 32 → r < 4 → j * 80 + 1 < length f
     → SameButSpare m f (set (set f (j * 80) (getD f (j * 80) 0 / 32 * 32 + s)) (j * 80 + 1) (getD f (j * 80 + 1) 0 / 4 * 4 + r))
 any-spare = promised.any-spare
+
+pub any-spares : {m : ℕ} {f g x : List ℕ} → SameButSpare m f g → SameButSpare m g x → SameButSpare m f x
+any-spares = promised.any-spares
 
 -- ---- the premises can be met, for each system and count; and what the demands refute
 

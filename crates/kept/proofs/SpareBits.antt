@@ -16,7 +16,7 @@ use Rattle.paper.specs.Paper.{sequences, sectionAt, numberAt, channelBits, byte
 use Rattle.promises.specs.Contents.{Contents}
 use Rattle.promises.specs.Demand2.{IdOut}
 use Rattle.promises.specs.Refusals.{viewTable}
-use Rattle.promises.specs.SpareBits.{WithSection, Values, told, SameButSpare}
+use Rattle.promises.specs.SpareBits.{WithSection, Answerable, told, SameButSpare}
 use Rattle.promises.proofs.Tables.{row-past}
 use Rattle.promises.proofs.Apart.{replace-gives, listed-same, sequences-two}
 use Rattle.promises.proofs.One.{listed-one}
@@ -38,7 +38,7 @@ use Rattle.rules_replaces.proofs.Replacing.{by-replaced, replaces}
 use Rattle.rules_replaces.proofs.Headlines as replacing
 use Rattle.rules_writes.specs.Write.{Wrote}
 use Rattle.rules_writes.proofs.Headlines as writes
-use Rattle.kept.proofs.Alike.{alike, first-rows, two-parts, same-view}
+use Rattle.kept.proofs.Alike.{same-outcome, first-rows, two-parts, same-view}
 use Rattle.kept.proofs.Commentary.{few-stored}
 use Rattle.kept.proofs.WritingBack.{writes-back}
 
@@ -51,20 +51,29 @@ said-out {id} said = surveys.ids-out (read-id-one id .meets) said
 read-out : {id : List ℕ} {o : IdAnswer} → IdRead id o → IdOut id o (id-said-one id .outcome)
 read-out {id} read = surveys.ids-out read (id-said-one id .meets)
 
-pub said-told : {id : List ℕ} {v : IdValues} → IdSaid id v → WithSection id → Values v × (told v ≡ id)
-said-told said w = promised.id-told (said-out said) w
+pub said-told : {id : List ℕ} {v : IdValues} → IdSaid id v → WithSection id → Answerable v × (told v ≡ id)
+said-told said w = promised.id-back (said-out said) w
 
 pub read-told : {id : List ℕ} {o : IdAnswer} → IdRead id o → WithSection id → told (idValues o) ≡ id
-read-told read w = let out = read-out read in ap told (out .same) ∙ promised.id-told out w .1
+read-told read w = let out = read-out read in ap told (out .same) ∙ promised.id-back out w .1
 
 pub said-only : {id : List ℕ} {v : IdValues} → IdSaid id v → told v ≡ id → (length id ≡ 3) × (getD id 0 0 / 32 < 5)
-said-only said = promised.id-told-only (said-out said)
+said-only said = promised.id-back-only (said-out said)
 
-pub values-said : {v : IdValues} → Values v → WithSection (told v) × ((v′ : IdValues) → IdSaid (told v) v′ → v′ ≡ v)
-values-said w = let t = promised.values-told w in (t .0, λ v′ said. t .1 _ v′ (said-out said))
+pub values-said : {v : IdValues} → Answerable v → WithSection (told v) × ((v′ : IdValues) → IdSaid (told v) v′ → v′ ≡ v)
+values-said w = let t = promised.values-back w in (t .0, λ v′ said. t .1 _ v′ (said-out said))
 
 pub one-answer : {id id′ : List ℕ} {v : IdValues} → WithSection id → WithSection id′ → IdSaid id v → IdSaid id′ v → id ≡ id′
 one-answer w w′ said said′ = sym (said-told said w .1) ∙ said-told said′ w′ .1
+
+-- 95h, 1Ah, 86h: section 100, bit 4 is 1, arbitrary 0101; Dseq 0001, FSC 1, FSP 0, the reserved bits 10
+pub known-answer : {v : IdValues} → IdSaid (0x95 ∷ 0x1A ∷ 0x86 ∷ []) v
+    → v ≡ record { number = 0; section = 4; channel = 3; dseq = 1; dbn = 134; arbitrary = 5; reserved = 6 }
+unfolding told
+known-answer {v} said =
+    let good : Answerable (record { number = 0; section = 4; channel = 3; dseq = 1; dbn = 134; arbitrary = 5; reserved = 6 }) =
+    record { number = refl; section = omega arith; channel = omega arith; dseq = omega arith; dbn = omega arith; arbitrary = omega arith; reserved = omega arith } in
+    values-said good .1 v said
 
 -- ---- view: the number, and a block that differs in spare bits alone
 
@@ -110,7 +119,7 @@ pub same-sequence : (k h q : ℕ) {f g list list₁ list₂ : List ℕ} {r r′ 
     → SequenceSurveyed k h q g list r′ list₂ → (r ≡ r′) × (list₁ ≡ list₂)
 same-sequence k h q {f} {g} {list} {list₁} {list₂} {r} {r′} s a a′ =
     let e : _≡_ {A = Survey × List ℕ} (r, list₁) (r′, list₂) =
-    alike (surveys.sequence-answers k h q f list) (surveys.sequence-answers k h q g list) (record { too = λ e. rw (s .size) e }) a a′ (λ z z′.
+    same-outcome (surveys.sequence-answers k h q f list) (surveys.sequence-answers k h q g list) (record { too = λ e. rw (s .size) e }) a a′ (λ z z′.
     let one = listed-one (listed-same (spare-faults s) (surveys.sequences-listed k h q a z)) (surveys.sequences-listed k h q a′ z′) (z ∙ sym z′) in
     λ i. (one .0 i, one .1 i)) in
     two-parts e
@@ -130,10 +139,10 @@ module _ {k : ℕ} {f g : List ℕ} (s : SameButSpare (600 * sequences k) f g) {
       let same : r ≡ r′ = there .no-other (r′, g′) call′ r (replace-gives (spare-alike s) (spare-as s c) .too (here .numbered (r, f′) call)) in (
         same,
         by-eq r 0
-        (λ z.
-        exchanged-same (subst (λ (m : ℕ). Replaced k f c samples m f′) z call)
-        (subst (λ (m : ℕ). Replaced k g c samples m g′) (sym same ∙ z) call′))
-        (λ d. rw (here .refused (r, f′) call d, there .refused (r′, g′) call′ (λ z. d (same ∙ z))) s),
+            (λ z.
+            exchanged-same (subst (λ (m : ℕ). Replaced k f c samples m f′) z call)
+            (subst (λ (m : ℕ). Replaced k g c samples m g′) (sym same ∙ z) call′))
+            (λ d. rw (here .refused (r, f′) call d, there .refused (r′, g′) call′ (λ z. d (same ∙ z))) s),
       )
 
 -- ---- a frame that our writer made: its spare bits are all 1
@@ -152,6 +161,6 @@ ones-written {k} {l} {frame} {f} wrote h q p hh hq hp {v} said =
     let first : 32 * sectionAt p + 16 + 15 ≡ 32 * sectionAt p + 31 = omega arith in
     let id : bytesAt n f h q p 0 3 ≡ (32 * sectionAt p + 16 + 15) ∷ (16 * q + 4 * channelBits h + 3) ∷ numberAt p ∷ [] =
     writes-back wrote .laid-out .form .ids h q p hh hq hp ∙ rw first refl in
-    let ones : Values (record { number = 0; section = sectionAt p; channel = h; dseq = q; dbn = numberAt p; arbitrary = 15; reserved = 7 }) =
+    let ones : Answerable (record { number = 0; section = sectionAt p; channel = h; dseq = q; dbn = numberAt p; arbitrary = 15; reserved = 7 }) =
     record { number = refl; section = section-below p; channel = hh; dseq = omega arith; dbn = number; arbitrary = omega arith; reserved = omega arith } in
     values-said ones .1 v (rw id at said)

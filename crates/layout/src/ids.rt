@@ -36,9 +36,12 @@ pub fn read_id(id: &[u8]) -> IdAnswer
             dseq: byte1 / 16,
             dbn: BlockNumber(byte2),
         };
-        let arbitrary = byte0 % 16;
         let reserved = byte0 / 16 % 2 * 4 + byte1 % 4;
-        return IdAnswer::Named(named, Spare { arbitrary: arbitrary, reserved: reserved });
+        let spare = Spare {
+            arbitrary: byte0 % 16,
+            reserved: reserved,
+        };
+        return IdAnswer::Named(named, spare);
     }
     IdAnswer::Reserved
 }

@@ -55,7 +55,8 @@ pub struct BlockId {
     pub dbn: BlockNumber,
 }
 
-// The spare bits of an ID, which name nothing: the arbitrary bits 3-0 of byte 0; the reserved bits, 4 of byte 0 above 1-0 of byte 1.
+// The spare bits of an ID, which name nothing: arbitrary are bits 3-0 of byte 0; reserved are bit 4 of byte 0, with weight 4, and
+// bits 1-0 of byte 1.
 pub struct Spare {
     pub arbitrary: u32,
     pub reserved: u32,

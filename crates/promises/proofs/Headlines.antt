@@ -1,6 +1,6 @@
 -- What an edit of a promise is refused by: each statement leaves one answer, so that a clause that is weakened is noticed. Assumes nothing.
 use mathlib.Core.Path.{_≡_}
-use mathlib.Core.List.{List}
+use mathlib.Core.List.{List, [], _∷_}
 use mathlib.Core.Bool.{Bool, true}
 use Prim.Native.Nat.{ℕ, _+_, _-_, _*_, _/_, _%_, _≤_, _<_}
 use lib.Dec.{ltb}
@@ -16,8 +16,8 @@ use Rattle.paper.specs.declared.AudioAnswer.{AudioAnswer}
 use Rattle.promises.specs.Demand3.{Listed, SalvageOut, Salvages, SampleSalvaged}
 use Rattle.promises.specs.Unrecorded.{Marks, SameButAudio, SameButAaux}
 use Rattle.promises.specs.Commentary.{Exchanged, SalvagedAgain, Changed}
-use Rattle.promises.specs.SpareBits.{WithSection, Values, told, SameButSpare}
-use Rattle.promises.proofs.SpareBits.{named-values, named-told, told-named, told-section, told-values, spare-free}
+use Rattle.promises.specs.SpareBits.{WithSection, Answerable, told, SameButSpare}
+use Rattle.promises.proofs.SpareBits.{section-free, named-values, named-told, told-named, told-section, told-values, spare-free, spare-on}
 use Rattle.promises.proofs.Apart.{audio-free, aaux-free}
 use Rattle.promises.proofs.Commentary.{exchanged-one, salvaged-again-one}
 use Rattle.promises.proofs.Holding.{changed-exactly}
@@ -121,18 +121,25 @@ one-changed = changed-exactly
 
 -- ---- the spare bits: three bytes and the values of their answer are told from each other; what may differ where nothing else does
 
-pub id-told : {id : List ℕ} {o : IdAnswer} {v : IdValues} → IdOut id o v → WithSection id → Values v × (told v ≡ id)
-id-told out w = (named-values out w, named-told out (w .size) (w .section))
+pub id-back : {id : List ℕ} {o : IdAnswer} {v : IdValues} → IdOut id o v → WithSection id → Answerable v × (told v ≡ id)
+id-back out w = (named-values out w, named-told out (w .size) (w .section))
 
-pub id-told-only : {id : List ℕ} {o : IdAnswer} {v : IdValues} → IdOut id o v → told v ≡ id → (length id ≡ 3) × (getD id 0 0 / 32 < 5)
-id-told-only = told-named
+pub id-back-only : {id : List ℕ} {o : IdAnswer} {v : IdValues} → IdOut id o v → told v ≡ id → (length id ≡ 3) × (getD id 0 0 / 32 < 5)
+id-back-only = told-named
 
-pub values-told : {v : IdValues} → Values v → WithSection (told v) × ((o : IdAnswer) (v′ : IdValues) → IdOut (told v) o v′ → v′ ≡ v)
-values-told w = (told-section w, λ o v′ out. told-values w out)
+pub values-back : {v : IdValues} → Answerable v → WithSection (told v) × ((o : IdAnswer) (v′ : IdValues) → IdOut (told v) o v′ → v′ ≡ v)
+values-back w = (told-section w, λ o v′ out. told-values w out)
+
+-- the bytes may be any with a section; and the spare bits of a block anything, of one block after the other
+pub any-section : (a b c : ℕ) → a < 160 → b < 256 → c < 256 → WithSection (a ∷ b ∷ c ∷ [])
+any-section = section-free
 
 pub any-spare : (m : ℕ) (f : List ℕ) (j s r : ℕ) → s < 32 → r < 4 → j * 80 + 1 < length f
     → SameButSpare m f (set (set f (j * 80) (getD f (j * 80) 0 / 32 * 32 + s)) (j * 80 + 1) (getD f (j * 80 + 1) 0 / 4 * 4 + r))
 any-spare = spare-free
+
+pub any-spares : {m : ℕ} {f g x : List ℕ} → SameButSpare m f g → SameButSpare m g x → SameButSpare m f x
+any-spares = spare-on
 
 -- ---- 3: the fault list, and what is salvaged
 

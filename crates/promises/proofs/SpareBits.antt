@@ -23,7 +23,7 @@ use Rattle.paper.specs.Paper.{sequences, positions, channelBy, channelBits, sou
 use Rattle.promises.specs.Refusals.{countStored}
 use Rattle.promises.specs.Demand2.{IdOut}
 use Rattle.promises.specs.Commentary.{Exchanged}
-use Rattle.promises.specs.SpareBits.{WithSection, Values, told, SameButSpare}
+use Rattle.promises.specs.SpareBits.{WithSection, Answerable, told, SameButSpare}
 use Rattle.rules_format.specs.Systems.{systemOf}
 use Rattle.rules_format.specs.Ids.{idValues}
 use Rattle.rules_format.proofs.Blocks.{before-channel}
@@ -55,6 +55,10 @@ three-below a b c zero ha hb hc h = ha
 three-below a b c (suc zero) ha hb hc h = hb
 three-below a b c (suc (suc zero)) ha hb hc h = hc
 three-below a b c (suc (suc (suc i))) ha hb hc h = absurd (omega (arith, h))
+
+-- any three bytes with a section
+pub section-free : (a b c : ℕ) → a < 160 → b < 256 → c < 256 → WithSection (a ∷ b ∷ c ∷ [])
+section-free a b c ha hb hc = record { size = refl; bytes = λ i h. three-below a b c i (omega arith) hb hc h; section = omega arith }
 
 -- the values of three bytes tell them
 bytes-told : (id : List ℕ) → length id ≡ 3
@@ -89,7 +93,7 @@ module _ {id : List ℕ} {o : IdAnswer} {v : IdValues} (out : IdOut id o v) wher
     named-told = ap told (out .values named-zero) ∙ bytes-told id three
 
   -- and its values are of so many bits
-  pub named-values : WithSection id → Values v
+  pub named-values : WithSection id → Answerable v
   named-values w =
       let z = named-zero (w .size) (w .section) in
       let b1 : getD id 1 0 < 256 = w .bytes 1 (omega arith) in
@@ -104,16 +108,16 @@ module _ {id : List ℕ} {o : IdAnswer} {v : IdValues} (out : IdOut id o v) wher
         reserved = omega arith;
       })
 
-  -- a refusal tells nothing: its zeros are none of its three bytes
+  -- a refusal tells nothing: its zeros tell other bytes
   pub told-named : told v ≡ id → (length id ≡ 3) × (getD id 0 0 / 32 < 5)
   unfolding told
   told-named e =
       let three : length id ≡ 3 = sym (ap length e) in (
         three,
         by-lt (getD id 0 0 / 32) 5 (λ l. l) (λ r.
-        let zeros : v ≡ idValues Reserved = sym (out .same) ∙ ap idValues (out .reserved three r) in
-        let first : 0 ≡ getD id 0 0 = ap (λ (x : IdValues). getD (told x) 0 0) (sym zeros) ∙ ap (λ (x : List ℕ). getD x 0 0) e in
-        absurd (omega (arith, r, first))),
+            let zeros : v ≡ idValues Reserved = sym (out .same) ∙ ap idValues (out .reserved three r) in
+            let first : 0 ≡ getD id 0 0 = ap (λ (x : IdValues). getD (told x) 0 0) (sym zeros) ∙ ap (λ (x : List ℕ). getD x 0 0) e in
+            absurd (omega (arith, r, first))),
       )
 
 -- ---- told: values are those of the three bytes that they tell
@@ -121,7 +125,7 @@ module _ {id : List ℕ} {o : IdAnswer} {v : IdValues} (out : IdOut id o v) wher
 bit-above : (a b : ℕ) → b < 2 → (2 * a + b) % 2 ≡ b
 bit-above a b h = omega arith
 
-module _ {v : IdValues} (w : Values v) where
+module _ {v : IdValues} (w : Answerable v) where
   abbrev first : ℕ
   first = 32 * v .section + 16 * (v .reserved / 4) + v .arbitrary
 
@@ -133,11 +137,7 @@ module _ {v : IdValues} (w : Values v) where
 
   pub told-section : WithSection (told v)
   unfolding told
-  told-section = record {
-    size = refl;
-    bytes = λ i h. three-below first second (v .dbn) i (omega (arith, w .section, w .arbitrary, w .reserved)) (omega (arith, bits-below, w .dseq)) (w .dbn) h;
-    section = omega (arith, w .section, w .arbitrary, w .reserved);
-  }
+  told-section = section-free first second (v .dbn) (omega (arith, w .section, w .arbitrary, w .reserved)) (omega (arith, bits-below, w .dseq)) (w .dbn)
 
   pub told-values : {o : IdAnswer} {v′ : IdValues} → IdOut (told v) o v′ → v′ ≡ v
   unfolding told
@@ -180,7 +180,7 @@ module _ (m : ℕ) (f : List ℕ) (j s r : ℕ) (hs : s < 32) (hr : r < 4) (with
   pub spare-free : SameButSpare m f both-set
   spare-free = record {
     size = length-set first-set (j * 80 + 1) _ ∙ first-length;
-    section = λ i hi.
+    first = λ i hi.
         by-eq i j
         (λ own. rw own (ap (λ (x : ℕ). x / 32) (getD-set-other first-set (j * 80 + 1) (j * 80) _ 0 (λ z. omega (arith, z)) ∙ getD-set-same f (j * 80) _ 0 (omega arith)) ∙ omega arith))
         (λ d. ap (λ (x : ℕ). x / 32) (else (i * 80) (λ z. d (omega (arith, z))) (λ z. omega (arith, z))));
@@ -191,15 +191,24 @@ module _ (m : ℕ) (f : List ℕ) (j s r : ℕ) (hs : s < 32) (hr : r < 4) (with
     others = λ i b hi low hb. else (i * 80 + b) (λ z. omega (arith, z, low, hb)) (λ z. omega (arith, z, low, hb));
   }
 
+-- of any blocks, one after the other
+pub spare-on : {m : ℕ} {f g x : List ℕ} → SameButSpare m f g → SameButSpare m g x → SameButSpare m f x
+spare-on a b = record {
+  size = b .size ∙ a .size;
+  first = λ j hj. b .first j hj ∙ a .first j hj;
+  second = λ j hj. b .second j hj ∙ a .second j hj;
+  others = λ j i hj low hi. b .others j i hj low hi ∙ a .others j i hj low hi;
+}
+
 -- ---- SameButSpare: what the calls go by is the same
 
 pub spare-refl : {m : ℕ} {f : List ℕ} → SameButSpare m f f
-spare-refl = record { size = refl; section = λ j hj. refl; second = λ j hj. refl; others = λ j b hj low hb. refl }
+spare-refl = record { size = refl; first = λ j hj. refl; second = λ j hj. refl; others = λ j b hj low hb. refl }
 
 -- a block has the same fault in every place
 pub spare-faults : {m : ℕ} {f g : List ℕ} → SameButSpare m f g → (j h q p : ℕ) → j < m → faultThere g j h q p ≡ faultThere f j h q p
 spare-faults s j h q p hj =
-    rw (s .others j 2 hj (omega arith) (omega arith)) (fault-spare _ _ _ _ _ h q p (s .section j hj) (s .second j hj))
+    rw (s .others j 2 hj (omega arith) (omega arith)) (fault-spare _ _ _ _ _ h q p (s .first j hj) (s .second j hj))
 
 pub spare-alike : {k : ℕ} {f g : List ℕ} → SameButSpare (600 * sequences k) f g → Alike k f g
 spare-alike s = record { size = s .size; faults = spare-faults s; behind = λ j b hj low hb d. s .others j b hj (omega arith) hb }
@@ -229,7 +238,7 @@ pub spare-block : {m : ℕ} {f g : List ℕ} → SameButSpare m f g → (j : ℕ
     → SameButSpare 1 (take 80 (drop (j * 80) f)) (take 80 (drop (j * 80) g))
 spare-block {m} {f} {g} s j hj fits = record {
   size = length-part (j * 80) 80 g (omega (arith, fits, s .size)) ∙ sym (length-part (j * 80) 80 f fits);
-  section = λ i hi. let e : i ≡ 0 = omega arith in rw (e, byte f 0 (omega arith), byte g 0 (omega arith), nought) (s .section j hj);
+  first = λ i hi. let e : i ≡ 0 = omega arith in rw (e, byte f 0 (omega arith), byte g 0 (omega arith), nought) (s .first j hj);
   second = λ i hi. let e : i ≡ 0 = omega arith in rw (e, byte f 1 (omega arith), byte g 1 (omega arith)) (s .second j hj);
   others = λ i b hi low hb. let e : i * 80 + b ≡ b = omega arith in rw (e, byte f b hb, byte g b hb) (s .others j b hj low hb);
 }
@@ -251,7 +260,7 @@ module _ {m k : ℕ} {f g : List ℕ} {c : ℕ} {samples : List ℤ} {f′ g′ 
   pub spare-exchanged : SameButSpare m f′ g′
   spare-exchanged = record {
     size = x′ .size ∙ s .size ∙ sym (x .size);
-    section = λ j hj. rw (first-kept j .0, first-kept j .1) (s .section j hj);
+    first = λ j hj. rw (first-kept j .0, first-kept j .1) (s .first j hj);
     second = λ j hj. rw (head-same x y known c1 c8 few j 1 (omega arith), head-same x′ y known c1 c8 few′ j 1 (omega arith)) (s .second j hj);
     others = λ j b hj low hb. exchanged-byte x x′ (j * 80 + b) (s .others j b hj low hb);
   }

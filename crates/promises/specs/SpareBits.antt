@@ -1,5 +1,5 @@
 -- The customer's request "What did the spare bits say?": an ID is told back from its answer, and no other call notices. v are the values of an answer;
--- j is a block of a frame, of a sequence or of one block, and b a byte of it.
+-- j is a block of a frame, of a sequence or of a view, and b a byte of it.
 use mathlib.Core.Path.{_≡_}
 use mathlib.Core.List.{List, [], _∷_}
 use Prim.Native.Nat.{ℕ, _+_, _*_, _/_, _%_, _≤_, _<_}
@@ -15,8 +15,8 @@ pub record WithSection (id : List ℕ) : Type 0 where
   pub bytes : (i : ℕ) → i < 3 → getD id i 0 < 256
   pub section : getD id 0 0 / 32 < 5
 
--- the values that their answer can have
-pub record Values (v : IdValues) : Type 0 where
+-- seven values that an answer can have
+pub record Answerable (v : IdValues) : Type 0 where
   pub number : v .number ≡ 0
   pub section : v .section < 5
   pub channel : v .channel < 4
@@ -25,7 +25,7 @@ pub record Values (v : IdValues) : Type 0 where
   pub arbitrary : v .arbitrary < 16
   pub reserved : v .reserved < 8
 
--- the three bytes by these values, all 24 bits
+-- the three bytes by such values, all 24 bits
 unfoldable pub told : IdValues → List ℕ
 told v =
     (32 * v .section + 16 * (v .reserved / 4) + v .arbitrary)
@@ -38,6 +38,6 @@ told v =
 -- f and g are m blocks each that differ at most in the spare bits of their IDs: bits 4-0 of byte 0 and bits 1-0 of byte 1
 pub record SameButSpare (m : ℕ) (f g : List ℕ) : Type 0 where
   pub size : length g ≡ length f
-  pub section : (j : ℕ) → j < m → getD g (j * 80) 0 / 32 ≡ getD f (j * 80) 0 / 32
+  pub first : (j : ℕ) → j < m → getD g (j * 80) 0 / 32 ≡ getD f (j * 80) 0 / 32
   pub second : (j : ℕ) → j < m → getD g (j * 80 + 1) 0 / 4 ≡ getD f (j * 80 + 1) 0 / 4
   pub others : (j b : ℕ) → j < m → 2 ≤ b → b < 80 → getD g (j * 80 + b) 0 ≡ getD f (j * 80 + b) 0

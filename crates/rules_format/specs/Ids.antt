@@ -37,7 +37,7 @@ dbnByte id = getD id 2 0
 abbrev pub arbitraryBits : List ℕ → ℕ
 arbitraryBits id = getD id 0 0 % 16
 
--- "and three reserved bits", 4 of byte 0 above 1-0 of byte 1
+-- "and three reserved bits": bit 4 of byte 0, with weight 4, and bits 1-0 of byte 1
 abbrev pub reservedBits : List ℕ → ℕ
 reservedBits id = getD id 0 0 / 16 % 2 * 4 + getD id 1 0 % 4
 

@@ -59,7 +59,15 @@ fn systems() {
     counted(System::P50);
 }
 
-fn print_values(number: u32, section: u32, channel: u32, dseq: u32, dbn: u32, arbitrary: u32, reserved: u32) {
+fn print_values(
+    number: u32,
+    section: u32,
+    channel: u32,
+    dseq: u32,
+    dbn: u32,
+    arbitrary: u32,
+    reserved: u32,
+) {
     lines::start(b"id");
     lines::field(number);
     lines::field(section);
@@ -76,7 +84,15 @@ fn id(bytes: &[u8]) {
     match layout::read_id(bytes) {
         IdAnswer::Named(b, spare) => {
             let section = b.section;
-            print_values(0, layout::section_code(section), b.channel, b.dseq, b.dbn.0, spare.arbitrary, spare.reserved);
+            print_values(
+                0,
+                layout::section_code(section),
+                b.channel,
+                b.dseq,
+                b.dbn.0,
+                spare.arbitrary,
+                spare.reserved,
+            );
         }
         IdAnswer::Reserved => print_values(11, 0, 0, 0, 0, 0, 0),
         IdAnswer::WrongLength => print_values(4, 0, 0, 0, 0, 0, 0),
