@@ -243,7 +243,7 @@ words-same {k} {f} {g} bytes c c1 c8 = record {
 
 -- nor in AAUX
 pub aaux-words : {k : ℕ} {f g : List ℕ} → SameButAaux k f g → (c : ℕ) → 0 < c → c < 9 → SameWords k f g c
-aaux-words s = words-same (s .words)
+aaux-words s = words-same (λ j b hj low hb. s .words j b hj (omega arith) hb)
 
 pub salvage-out-same : {k : ℕ} {f g : List ℕ} {samples : List ℤ} → Alike k f g → ((c : ℕ) → 0 < c → c < 9 → SameWords k f g c) → SalvageOut k f samples
     → SalvageOut k g samples
@@ -251,9 +251,10 @@ salvage-out-same {k} {f} {g} s words a = record {
   size = a .size;
   position = λ c t c1 c8 ht.
       let j = soundIndex (sequences k) c t in
-      let e : faultFor (sequences k) g c t ≡ faultFor (sequences k) f c t = fault-same s j j (index-below k f c t c1 c8 ht) in
+      let within : t < positions k = omega (arith, ht) in
+      let e : faultFor (sequences k) g c t ≡ faultFor (sequences k) f c t = fault-same s j j (index-below k f c t c1 c8 within) in
       let x = a .position c t c1 c8 ht in
-      record { unnamed = λ d. x .unnamed (λ z. d (e ∙ z)); renamed = λ z. x .renamed (sym e ∙ z) ∙ ap sampleBy (sym (words c c1 c8 .word t ht)) };
+      record { unnamed = λ d. x .unnamed (λ z. d (e ∙ z)); renamed = λ z. x .renamed (sym e ∙ z) ∙ ap sampleBy (sym (words c c1 c8 .word t within)) };
 }
 
 -- ---- surveyTable, salvageTable, checkTable: the length of the frame is the same
