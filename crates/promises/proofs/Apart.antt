@@ -1,10 +1,10 @@
--- What two frames that differ in audio blocks alone have in common, in the refusal tables and in what is read. No contract is asked. Assumes nothing.
+-- What two frames that are alike but for the sound have in common, in the refusal tables and in what is read. No contract is asked. Assumes nothing.
 use mathlib.Core.Path.{_≡_, refl, sym, ap, _∙_}
 use mathlib.Core.Bool.{not}
 use mathlib.Core.List.{List, [], _∷_}
 use mathlib.Core.Logic.{_⊎_, inl, inr, ⊎-elim, _≢_}
 use Prim.Native.Nat.{ℕ, zero, suc, _+_, _*_, _/_, _%_, _≤_, _<_}
-use native.Mathlib.Nat.{not-suc-le-zero}
+use native.Mathlib.Nat.{not-suc-le-zero, mul-le-mul-left}
 use native.Mathlib.Omega.{arith}
 use lib.Dec.{eqb}
 use lib.IntN.{ℤ}
@@ -222,7 +222,7 @@ module _ (k : ℕ) (f : List ℕ) (c t : ℕ) where
   index-below : 0 < c → c < 9 → t < positions k → soundIndex (sequences k) c t < 600 * sequences k
   index-below c1 c8 ht = by-position k ht (λ y known. let e = columns k y known .sequences-is in rw e (omega (arith, sound-within y f c t c1 c8)))
 
-  offset-below : t < positions k → 8 + 2 * (t / (9 * (sequences k / 2))) + 1 < 80
+  pub offset-below : t < positions k → 8 + 2 * (t / (9 * (sequences k / 2))) + 1 < 80
   offset-below ht =
       by-position k ht (λ y known. let col = columns k y known in rw (col .sequences-is) (word-within y f c t (omega (arith, ht, col .positions-is))))
 
@@ -319,6 +319,12 @@ pub some-sequence : (k : ℕ) → k < 4 → (0 < sequences k) × (0 < sequences 
 some-sequence k below =
     ⊎-elim (λ (ten : sequences k ≡ 10). (omega (arith, ten), omega (arith, ten))) (λ (twelve : sequences k ≡ 12). (omega (arith, twelve), omega (arith, twelve)))
     (sequences-two k below)
+
+-- a sequence of a half, by its rank
+pub rank-below : (n c r : ℕ) → r < n / 2 → soundFirst n c + r < n
+rank-below n c r h =
+    let bit : (c + 1) % 2 ≤ 1 = omega arith in
+    omega (arith, h, mul-le-mul-left (n / 2) bit)
 
 -- a byte of the pack of an SSYB
 module _ {k : ℕ} {f g : List ℕ} (s : Alike k f g) where

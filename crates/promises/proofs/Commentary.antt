@@ -23,9 +23,8 @@ use Rattle.rules_format.specs.Systems.{halfOf, systemOf}
 use Rattle.rules_format.proofs.Systems.{half-cases}
 use Rattle.rules_format.proofs.Sound.{audio-below}
 use Rattle.rules_format.proofs.Paper.{columns}
-use Rattle.rules_format.proofs.Numbers.{word-within}
 use Rattle.rules_format.proofs.Starts.{start-one}
-use Rattle.promises.proofs.Apart.{SameAs}
+use Rattle.promises.proofs.Apart.{offset-below, SameAs}
 use Rattle.promises.proofs.One.{channels-one}
 
 -- ---- one answer
@@ -69,9 +68,6 @@ module _ {k : ℕ} {f : List ℕ} {c : ℕ} {samples : List ℤ} {g : List ℕ} 
   abbrev n : ℕ
   n = sequences k
 
-  within : (t : ℕ) → t < positions k → 8 + 2 * (t / (9 * (n / 2))) + 1 < 80
-  within t h = let col = columns k y known in rw (col .sequences-is) (word-within y f c t (omega (arith, h, col .positions-is)))
-
   -- a word lies in an audio block
   nine-blocks : (t : ℕ) → 3 * (t % 3) + t % (9 * (n / 2)) / (3 * (n / 2)) < 9
   unfolding halfOf
@@ -89,7 +85,7 @@ module _ {k : ℕ} {f : List ℕ} {c : ℕ} {samples : List ℤ} {g : List ℕ} 
   apart-byte j b hb other t h =
       let i = soundIndex n c t in
       let w = 8 + 2 * (t / (9 * (n / 2))) in
-      let room = within t (omega (arith, h, few)) in
+      let room = offset-below k f c t (omega (arith, h, few)) in
       let next : i * 80 + w + 1 ≡ i * 80 + (w + 1) = omega arith in (
         (λ e. let one = digit-one 80 j i b w hb (omega (arith, room)) e in other t (one .0) (omega (arith, one .1))),
         λ e. let one = digit-one 80 j i b (w + 1) hb room (e ∙ next) in other t (one .0) (omega (arith, one .1)),

@@ -22,7 +22,7 @@ use Rattle.promises.specs.Refusals.{countStored, modeStored}
 use Rattle.promises.specs.Commentary.{Exchanged, Changed}
 use Rattle.rules_format.specs.Systems.{systemOf}
 use Rattle.rules_format.proofs.Paper.{known-below}
-use Rattle.promises.proofs.Apart.{Alike, apart-alike, bytes-alike, bytes-same, low-same, low-section, slot-section, some-sequence}
+use Rattle.promises.proofs.Apart.{Alike, apart-alike, bytes-alike, bytes-same, low-same, low-section, slot-section, some-sequence, rank-below}
 use Rattle.promises.proofs.LaidOut.{cut-byte}
 use Rattle.promises.proofs.Commentary.{head-same, exchanged-apart, high-else, low-else, word-else}
 
@@ -34,9 +34,7 @@ as-below q = pick-either (λ (a : ℕ). a < 9) _ (omega arith) (omega arith)
 
 -- the first sequence of a half
 first-below : (k c : ℕ) → k < 4 → soundFirst (sequences k) c < sequences k
-first-below k c h =
-    let half : (c + 1) % 2 < 2 = omega arith in
-    by-eq ((c + 1) % 2) 0 (λ z. rw z (omega (arith, some-sequence k h .0))) (λ d. let one : (c + 1) % 2 ≡ 1 = omega (arith, d) in rw one (omega (arith, some-sequence k h .0)))
+first-below k c h = omega (arith, rank-below (sequences k) c 0 (some-sequence k h .1))
 
 size-said : {k : ℕ} {f : List ℕ} → HasForm k f → (h q : ℕ) → h < 4 → q < sequences k → byteAt (sequences k) f h q (asPlace q) 4 ≡ sizeByte k f
 unfolding aauxForm pick

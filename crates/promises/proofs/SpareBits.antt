@@ -4,7 +4,6 @@ use mathlib.Core.Path.{_≡_, refl, sym, ap, _∙_}
 use mathlib.Core.List.{List, [], _∷_}
 use mathlib.Core.Logic.{_≢_}
 use Prim.Native.Nat.{ℕ, zero, suc, _+_, _*_, _/_, _%_, _≤_, _<_}
-use native.Mathlib.Nat.{mul-le-mul-left}
 use native.Mathlib.Omega.{arith}
 use lib.Dec.{eqb, ltb, eqb→eq}
 use lib.IntN.{ℤ}
@@ -28,7 +27,7 @@ use Rattle.rules_format.specs.Systems.{systemOf}
 use Rattle.rules_format.specs.Ids.{idValues}
 use Rattle.rules_format.proofs.Blocks.{before-channel}
 use Rattle.rules_format.proofs.Paper.{fault-spare}
-use Rattle.promises.proofs.Apart.{faultThere, Alike, SameAs, SameWords, words-same}
+use Rattle.promises.proofs.Apart.{faultThere, Alike, rank-below, SameAs, SameWords, words-same}
 use Rattle.promises.proofs.Unrecorded.{as-place}
 use Rattle.promises.proofs.Commentary.{exchanged-byte, head-same}
 
@@ -214,11 +213,6 @@ pub spare-alike : {k : ℕ} {f g : List ℕ} → SameButSpare (600 * sequences k
 spare-alike s = record { size = s .size; faults = spare-faults s; behind = λ j b hj low hb d. s .others j b hj (omega arith) hb }
 
 -- packs and words stand behind the IDs
-rank-below : (n c r : ℕ) → r < n / 2 → soundFirst n c + r < n
-rank-below n c r h =
-    let bit : (c + 1) % 2 ≤ 1 = omega arith in
-    omega (arith, h, mul-le-mul-left (n / 2) bit)
-
 pub spare-as : {k : ℕ} {f g : List ℕ} → SameButSpare (600 * sequences k) f g → (c : ℕ) → 0 < c → c < 9 → SameAs k f g c
 spare-as {k} s c c1 c8 = record {
   byte = λ r i hr hi.
