@@ -51,11 +51,6 @@ extern "C" {
 /* A lost sample, where a level would be -32,768 to 32,767. */
 #define DV100_LOST 32768
 
-/* The numbers of a record in a fault list: DIF channel, sequence, place, fault (11 to 15), and the ID as found. That is byte 0 of
- * the block times 65,536, plus byte 1 times 256, plus byte 2, whatever the fault is, spare bits included; dv100_read_id says what
- * such bytes name. A program that lends a list is compiled for this width: with a library of another it has to be compiled anew. */
-#define DV100_RECORD 5
-
 /* What a block ID names: section 0 header, 1 subcode, 2 VAUX, 3 audio, 4 video; DIF channel; sequence; block number. Beside it the
  * spare bits as found: arbitrary is bits 3-0 of byte 0; reserved is 4 times bit 4 of byte 0, plus bits 1-0 of byte 1. They name
  * nothing: dv100_write makes them ones, and no call judges them. Any three bytes may be asked, those of a block that a view refuses
@@ -89,9 +84,9 @@ struct dv100_time {
  * Refusals: 4 (not 3 bytes), 11. */
 struct dv100_id dv100_read_id(const uint8_t *id, size_t id_length);
 
-/* The blocks of a frame that do not name their place, in stream order. A record of the list is five numbers (DV100_RECORD): DIF
- * channel, sequence, place, fault, ID. The first faults are kept, as many as list_length / 5; the other entries of the list stay
- * as they were; the total counts all faults.
+/* The blocks of a frame that do not name their place, in stream order. A record of the list is four numbers: DIF channel,
+ * sequence, place, fault (11 to 15). The first faults are kept, as many as list_length / 4; the other entries of the list
+ * stay as they were; the total counts all faults.
  * Refusals: 1, 2. */
 struct dv100_survey dv100_survey(uint32_t system, const uint8_t *frame, size_t frame_length, uint32_t *list, size_t list_length);
 

@@ -1,8 +1,7 @@
 #!/bin/bash
 # differ.sh [CASES [SEED]]: the library's eleven calls beside tests/c/plain.c, an implementation of its own in C, on written,
 # damaged and rubbish frames. A difference fails; so does a refusal number of a call that no case met, or 0, 24 or 25 of a channel
-# with an AS of mode 1111; so does a record of a fault list that does not end in its block's ID; and so does, of every two causes to
-# refuse a replacement, another number than the lower.
+# with an AS of mode 1111; and so does, of every two causes to refuse a replacement, another number than the lower.
 set -u
 . "$(dirname "$0")/c/env.sh"
 work=$(mktemp -d)

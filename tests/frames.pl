@@ -1,7 +1,6 @@
 #!/usr/bin/perl
 # frames.pl RATE [OP..]: writes a frame of 60 or 50 Hz whose block IDs are right, its other bytes FFh but for the headers' byte 3.
-# An OP changes it:  zero:H,Q,P  the 80 bytes of a block   byte:H,Q,P,I=HEX  one byte of it   id:H,Q,P=HEX  its first three bytes
-# zero-all   ff-all (every block)
+# An OP changes it:  zero:H,Q,P  the 80 bytes of a block   byte:H,Q,P,I=HEX  one byte of it   zero-all   ff-all (every block)
 # Written from the paper alone, and not from the library.
 use strict;
 use warnings;
@@ -36,7 +35,6 @@ sub start { my ($h, $q, $p) = @_; (($n * $h + $q) * 150 + $p) * 80 }
 for my $op (@ops) {
     if    ($op =~ /^zero:(\d+),(\d+),(\d+)$/)                     { substr($frame, start($1, $2, $3), 80) = "\0" x 80 }
     elsif ($op =~ /^byte:(\d+),(\d+),(\d+),(\d+)=([0-9A-F]{2})$/) { substr($frame, start($1, $2, $3) + $4, 1) = chr hex $5 }
-    elsif ($op =~ /^id:(\d+),(\d+),(\d+)=([0-9A-F]{6})$/)         { substr($frame, start($1, $2, $3), 3) = pack 'H6', $4 }
     elsif ($op eq 'zero-all')                                     { $frame = "\0" x length $frame }
     elsif ($op eq 'ff-all')                                       { $frame = "\xFF" x length $frame }
     else                                                          { die "frames.pl: no such change: $op\n" }

@@ -1,12 +1,11 @@
 #!/usr/bin/perl
-# header.pl: what the C header has to declare, made from the sources of the exported functions, of the structs that they answer and
-# of the width of a survey record, a line each; with --header, what include/dv100.h declares, in the same form.
+# header.pl: what the C header has to declare, made from the sources of the exported functions and of the structs that they
+# answer, a line each; with --header, what include/dv100.h declares, in the same form.
 use strict;
 use warnings;
 
 my $exports = 'crates/dv100/src/lib.rt';
 my $structs = 'crates/paper/src/lib.rt';
-my $list = 'crates/fault_list/src/list.rt';
 my $header = 'include/dv100.h';
 
 # Rattle's types as C's; a slice is a pointer and its length
@@ -46,16 +45,15 @@ sub from_sources {
             $number{$2 // $4} . ' ' . ($field{$1} // $1) . ($2 ? "[$3]" : '') . ';' } split /\n/, $inside;
         push @lines, "$answer{$name} { @fields };";
     }
-    push @lines, map { "#define DV100_RECORD $_" } text($list) =~ /^pub const RECORD: usize = (\d+);$/mg;
     return @lines;
 }
 
 sub from_header {
     my $source = text($header);
     $source =~ s{/\*.*?\*/}{}sg;
-    my @lines = $source =~ /^(#define DV100_RECORD .*)$/mg;
     $source =~ s/^\s*#.*$//mg;
     $source =~ s/extern "C" \{//;
+    my @lines;
     while ($source =~ /(struct dv100_\w+) \{(.*?)\};/sg) {
         my ($name, $inside) = ($1, $2);
         my @fields = map { my ($type, $names) = /^\s*(\w+) (.*)$/s; map { "$type $_;" } split /,\s*/, $names } grep { /\S/ } split /;/, $inside;

@@ -81,20 +81,14 @@ sub fault {
     return 0;
 }
 
-# The three bytes of an ID as one number: byte 0 times 65,536 plus byte 1 times 256 plus byte 2
-sub id_found {
-    my ($view, $h, $q, $place) = @_;
-    return hex unpack 'H6', substr $view->{bytes}, start($view->{n}, $h, $q, $place), 3;
-}
-
-# All faulty blocks in stream order: channel, sequence, place, fault, ID
+# All faulty blocks in stream order: channel, sequence, place, fault
 sub faults {
     my ($view) = @_;
     my @found;
     for my $sequence (sequences($view)) {
         for my $place (0 .. 149) {
             my $fault = fault($view, @$sequence, $place);
-            push @found, [@$sequence, $place, $fault, id_found($view, @$sequence, $place)] if $fault;
+            push @found, [@$sequence, $place, $fault] if $fault;
         }
     }
     return @found;
@@ -435,11 +429,11 @@ sub read_time {
 # What an entry of the fault list holds before a call
 my $unused = 777;
 
-# Total, kept and the list: room is its length div 5, the first faults are kept, unused entries stay
+# Total, kept and the list: room is its length div 4, the first faults are kept, unused entries stay
 sub fault_list {
     my ($view, $size) = @_;
     my @found = faults($view);
-    my $room  = int($size / 5);
+    my $room  = int($size / 4);
     my $kept  = @found < $room ? @found : $room;
     my @list  = map { @$_ } @found[0 .. $kept - 1];
     return (scalar @found, $kept, @list, ($unused) x ($size - @list));

@@ -20,55 +20,38 @@ expect() {
     fi
 }
 
-# The first 64 records of a frame whose blocks all have fault $1 and ID $2 but for the lines of the file $3, and the total $4
+# The first 64 records of a frame whose blocks all have fault $1 but for the lines of the file $2, and the total $3
 sixty_four() {
-    for p in $(seq 0 63); do echo "F\t0\t0\t$p\t$1\t$2"; done | sed -f "$3" | tr '\n' '~' | sed 's/~/\\n/g'
-    printf 'T\\t%s\\t64\\n' "$4"
+    for p in $(seq 0 63); do echo "F\t0\t0\t$p\t$1"; done | sed -f "$2" | tr '\n' '~' | sed 's/~/\\n/g'
+    printf 'T\\t%s\\t64\\n' "$3"
 }
 
-# An ID of its own for the place $1: its section is reserved
-own_id() { printf '%02X%02X%02X' $((224 + $1 % 32)) $(($1 * 7 % 256)) $((255 - $1)); }
-
 # ---- whole frames
-expect example 'F\t1\t3\t22\t12\t000000\nT\t1\t1\n' <crates/survey/stdin
+expect example 'F\t1\t3\t22\t12\nT\t1\t1\n' <crates/survey/stdin
 expect clean-60 'T\t0\t0\n' < <(frame 60)
 expect clean-50 'T\t0\t0\n' < <(frame 50)
-expect last-block-60 'F\t3\t9\t149\t12\t000000\nT\t1\t1\n' < <(frame 60 zero:3,9,149)
-expect last-block-50 'F\t3\t11\t149\t12\t000000\nT\t1\t1\n' < <(frame 50 zero:3,11,149)
+expect last-block-60 'F\t3\t9\t149\t12\nT\t1\t1\n' < <(frame 60 zero:3,9,149)
+expect last-block-50 'F\t3\t11\t149\t12\nT\t1\t1\n' < <(frame 50 zero:3,11,149)
 
 # ---- each fault: a reserved section; another section, channel, Dseq, DBN; and the lowest where several fit
-expect fault-11 'F\t2\t4\t50\t11\tBF4329\nT\t1\t1\n' < <(frame 60 byte:2,4,50,0=BF)
-expect fault-12 'F\t2\t4\t50\t12\t7F4329\nT\t1\t1\n' < <(frame 60 byte:2,4,50,0=7F)
-expect fault-13 'F\t2\t4\t50\t13\t9F4729\nT\t1\t1\n' < <(frame 60 byte:2,4,50,1=47)
-expect fault-14 'F\t2\t4\t50\t14\t9F5329\nT\t1\t1\n' < <(frame 60 byte:2,4,50,1=53)
-expect fault-15 'F\t2\t4\t50\t15\t9F4300\nT\t1\t1\n' < <(frame 60 byte:2,4,50,2=00)
-expect lowest-fault 'F\t2\t4\t50\t13\t9F5700\nT\t1\t1\n' < <(frame 60 byte:2,4,50,1=57 byte:2,4,50,2=00)
-
-# ---- the ID as found: the order of its bytes, each hex digit, zeros in front, bits that are not judged, and an ID that belongs elsewhere
-expect byte-order 'F\t1\t2\t7\t12\t123456\nT\t1\t1\n' < <(frame 60 id:1,2,7=123456)
-expect digits-up 'F\t1\t2\t7\t12\t012345\nF\t1\t2\t8\t12\t6789AB\nF\t1\t2\t9\t11\tCDEF00\nT\t3\t3\n' \
-    < <(frame 60 id:1,2,7=012345 id:1,2,8=6789AB id:1,2,9=CDEF00)
-expect digits-down 'F\t1\t2\t7\t11\tFEDCBA\nF\t1\t2\t8\t13\t987654\nF\t1\t2\t9\t12\t3210FF\nT\t3\t3\n' \
-    < <(frame 50 id:1,2,7=FEDCBA id:1,2,8=987654 id:1,2,9=3210FF)
-expect leading-zeros 'F\t3\t0\t7\t12\t00000A\nF\t3\t0\t8\t12\t00B000\nF\t3\t0\t9\t12\t0C0000\nT\t3\t3\n' \
-    < <(frame 60 id:3,0,7=00000A id:3,0,8=00B000 id:3,0,9=0C0000)
-expect bits-not-judged 'F\t2\t4\t50\t15\t80402A\nF\t2\t4\t51\t15\t9F4329\nT\t2\t2\n' < <(frame 60 id:2,4,50=80402A id:2,4,51=9F4329)
-expect of-another-place 'F\t0\t0\t0\t12\t9F9B86\nF\t3\t9\t149\t12\t1F0700\nT\t2\t2\n' < <(frame 60 id:0,0,0=9F9B86 id:3,9,149=1F0700)
-expect sixty-four-ids "$(for p in $(seq 0 63); do echo "F\t2\t3\t$p\t11\t$(own_id $p)\n"; done | tr -d '\n')T\t66\t64\n" \
-    < <(frame 50 $(for p in $(seq 0 65); do echo "id:2,3,$p=$(own_id $p)"; done))
+expect fault-11 'F\t2\t4\t50\t11\nT\t1\t1\n' < <(frame 60 byte:2,4,50,0=BF)
+expect fault-12 'F\t2\t4\t50\t12\nT\t1\t1\n' < <(frame 60 byte:2,4,50,0=7F)
+expect fault-13 'F\t2\t4\t50\t13\nT\t1\t1\n' < <(frame 60 byte:2,4,50,1=47)
+expect fault-14 'F\t2\t4\t50\t14\nT\t1\t1\n' < <(frame 60 byte:2,4,50,1=53)
+expect fault-15 'F\t2\t4\t50\t15\nT\t1\t1\n' < <(frame 60 byte:2,4,50,2=00)
+expect lowest-fault 'F\t2\t4\t50\t13\nT\t1\t1\n' < <(frame 60 byte:2,4,50,1=57 byte:2,4,50,2=00)
 
 # ---- the other bits of an ID are ignored, and stream order is kept
 expect other-bits 'T\t0\t0\n' < <(frame 60 byte:2,4,50,0=80 byte:2,4,50,1=40)
-expect stream-order 'F\t0\t11\t148\t12\t000000\nF\t0\t11\t149\t12\t000000\nF\t1\t0\t0\t13\t000000\nT\t3\t3\n' \
-    < <(frame 50 zero:1,0,0 zero:0,11,149 zero:0,11,148)
+expect stream-order 'F\t0\t11\t148\t12\nF\t0\t11\t149\t12\nF\t1\t0\t0\t13\nT\t3\t3\n' < <(frame 50 zero:1,0,0 zero:0,11,149 zero:0,11,148)
 
 # ---- every block bad: the first 64 are kept. An ID of three zeros is that of H0 of DIF channel 2, sequence 0, which so names its place
 : >"$work/none"
-printf 's/^\\(F.t0.t0.t0.t\\)12/\\113/\n' >"$work/header"
-expect all-bad-60 "$(sixty_four 11 FFFFFF "$work/none" 6000)" < <(frame 60 ff-all byte:0,0,0,3=3F)
-expect all-bad-50 "$(sixty_four 11 FFFFFF "$work/none" 7200)" < <(frame 50 ff-all)
-expect all-zero-60 "$(sixty_four 12 000000 "$work/header" 5999)" < <(frame 60 zero-all)
-expect all-zero-50 "$(sixty_four 12 000000 "$work/header" 7199)" < <(frame 50 zero-all byte:0,0,0,3=80)
+printf 's/^\\(F.t0.t0.t0.t\\)12$/\\113/\n' >"$work/header"
+expect all-bad-60 "$(sixty_four 11 "$work/none" 6000)" < <(frame 60 ff-all byte:0,0,0,3=3F)
+expect all-bad-50 "$(sixty_four 11 "$work/none" 7200)" < <(frame 50 ff-all)
+expect all-zero-60 "$(sixty_four 12 "$work/header" 5999)" < <(frame 60 zero-all)
+expect all-zero-50 "$(sixty_four 12 "$work/header" 7199)" < <(frame 50 zero-all byte:0,0,0,3=80)
 
 # ---- wrong lengths
 expect empty 'E\t2\n' < <(printf '')
@@ -86,8 +69,8 @@ expect 50-called-60 'E\t2\n' < <(frame 50 byte:0,0,0,3=3F)
 
 # ---- input that arrives in small pieces
 pieces() { perl -e '$| = 1; binmode STDIN; while (sysread STDIN, my $x, 1777) { syswrite STDOUT, $x; select undef, undef, undef, 0.001 }'; }
-expect pieces-60 'F\t1\t3\t22\t12\t000000\nT\t1\t1\n' < <(frame 60 zero:1,3,22 | pieces)
-expect pieces-50 'F\t1\t3\t22\t12\t000000\nT\t1\t1\n' < <(frame 50 zero:1,3,22 | pieces)
+expect pieces-60 'F\t1\t3\t22\t12\nT\t1\t1\n' < <(frame 60 zero:1,3,22 | pieces)
+expect pieces-50 'F\t1\t3\t22\t12\nT\t1\t1\n' < <(frame 50 zero:1,3,22 | pieces)
 expect pieces-long 'E\t2\n' < <({ frame 60; printf x; } | pieces)
 
 echo "survey program: $passed cases passed, $failed failed"

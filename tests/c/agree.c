@@ -16,13 +16,11 @@ enum {
     MOST_SOUND = PAPER_AUDIO_CHANNELS * PAPER_MOST_SAMPLES,
     MOST_PICTURE = PAPER_MOST_MACROBLOCKS * PAPER_PAYLOAD_BYTES,
     SEQUENCE_BYTES = PAPER_PLACES * PAPER_BLOCK_BYTES,
-    RECORD = 5,
+    RECORD = 4,
     SOME_MACROBLOCKS = 12,
     LAST_REFUSAL = 33,
     UNTOUCHED = 0x5a5a5a5a
 };
-
-_Static_assert(DV100_RECORD == RECORD, "the header's record is not the paper's");
 
 static struct paper_map maps[PAPER_SYSTEMS];
 
@@ -217,12 +215,7 @@ static uint32_t write_frame(struct trial *trial)
 
 /* ---- faulty blocks */
 
-static const uint8_t *block_at(const struct trial *trial, unsigned dif_channel, unsigned dif_sequence, unsigned place)
-{
-    return trial->frame + paper_place_start(trial->map->system, dif_channel, dif_sequence, place);
-}
-
-/* A record for each block that does not name its place, in stream order, as the decoder sees them; how many blocks. */
+/* Four numbers for each block that does not name its place, in stream order, as the decoder sees them; how many blocks. */
 static unsigned decoder_faults(const struct trial *trial, uint32_t *list)
 {
     unsigned total = 0;
@@ -237,7 +230,6 @@ static unsigned decoder_faults(const struct trial *trial, uint32_t *list)
                 record[1] = dif_sequence;
                 record[2] = place;
                 record[3] = fault;
-                record[4] = paper_id_bits(block_at(trial, dif_channel, dif_sequence, place));
             }
     return total;
 }
@@ -248,8 +240,8 @@ static void clear_list(uint32_t *list, size_t length)
         list[at] = UNTOUCHED;
 }
 
-/* A list for so many blocks, lent to a length, against the due records: kept ones equal, every other entry untouched. */
-static void require_list(struct tally *tally, struct dv100_survey said, const uint32_t *list, unsigned blocks, size_t length,
+/* An answered list of a length against the due records: kept ones equal, the others untouched. */
+static void require_list(struct tally *tally, struct dv100_survey said, const uint32_t *list, size_t length,
                          const uint32_t *due, unsigned total)
 {
     unsigned kept = total < length / RECORD ? total : (unsigned)(length / RECORD);
@@ -257,18 +249,10 @@ static void require_list(struct tally *tally, struct dv100_survey said, const ui
             said.total, said.kept, total, kept);
     for (unsigned record = 0; record < kept; record++)
         require(tally, memcmp(list + RECORD * record, due + RECORD * record, RECORD * sizeof *due) == 0,
-                "record %u, due (%u,%u,%u) fault %u ID %06X", record, due[RECORD * record], due[RECORD * record + 1],
-                due[RECORD * record + 2], due[RECORD * record + 3], due[RECORD * record + 4]);
-    for (size_t at = RECORD * (size_t)kept; at < RECORD * (size_t)blocks; at++)
+                "record %u, due (%u,%u,%u) fault %u", record, due[RECORD * record], due[RECORD * record + 1],
+                due[RECORD * record + 2], due[RECORD * record + 3]);
+    for (size_t at = RECORD * (size_t)kept; at < length; at++)
         require(tally, list[at] == UNTOUCHED, "list entry %zu behind the kept records", at);
-}
-
-/* What a list is lent: room for every one of so many blocks, or for half of its faults, with 0 to 4 entries over. */
-enum { LENGTHS = 1 + RECORD };
-
-static size_t list_length(unsigned which, unsigned blocks, unsigned faults)
-{
-    return which == 0 ? RECORD * (size_t)blocks : RECORD * (size_t)(faults / 2) + which - 1;
 }
 
 /* ---- 1. written frames */
@@ -279,7 +263,8 @@ static void compare_ids(const struct trial *trial)
     for (unsigned dif_channel = 0; dif_channel < PAPER_DIF_CHANNELS; dif_channel++)
         for (unsigned dif_sequence = 0; dif_sequence < trial->map->system->dif_sequences; dif_sequence++)
             for (unsigned place = 0; place < PAPER_PLACES; place++) {
-                const uint8_t *block = block_at(trial, dif_channel, dif_sequence, place);
+                const uint8_t *block =
+                    trial->frame + paper_place_start(trial->map->system, dif_channel, dif_sequence, place);
                 uint8_t id[3];
                 paper_write_id(paper_id_of_place(trial->map, dif_channel, dif_sequence, place), id);
                 compare(&tally,
@@ -451,21 +436,15 @@ static void compare_read_audio(const struct trial *trial)
     print_tally(&tally);
 }
 
-/* Every position of every audio channel of a frame in any state; the list of the faults by every length that it is lent. */
+/* Every position of every audio channel of a frame in any state. */
 static void compare_salvage(const struct trial *trial, struct tally *tally)
 {
-    static int32_t samples[MOST_SOUND], again[MOST_SOUND];
+    static int32_t samples[MOST_SOUND];
     static uint32_t list[RECORD * MOST_BLOCKS], due[RECORD * MOST_BLOCKS];
-    unsigned positions = trial->map->system->samples, total = decoder_faults(trial, due);
-    for (unsigned which = 0; which < LENGTHS; which++) {
-        size_t length = list_length(which, MOST_BLOCKS, total);
-        clear_list(list, RECORD * MOST_BLOCKS);
-        struct dv100_survey said = dv100_salvage(trial->system, trial->frame, trial->frame_bytes, which == 0 ? samples : again,
-                                                 PAPER_AUDIO_CHANNELS * positions, list, length);
-        require_list(tally, said, list, MOST_BLOCKS, length, due, total);
-        require(tally, which == 0 || memcmp(samples, again, PAPER_AUDIO_CHANNELS * positions * sizeof *samples) == 0,
-                "samples beside a list of %zu", length);
-    }
+    unsigned positions = trial->map->system->samples;
+    clear_list(list, RECORD * MOST_BLOCKS);
+    struct dv100_survey said = dv100_salvage(trial->system, trial->frame, trial->frame_bytes, samples,
+                                             PAPER_AUDIO_CHANNELS * positions, list, RECORD * MOST_BLOCKS);
     for (unsigned audio_channel = 1; audio_channel <= PAPER_AUDIO_CHANNELS; audio_channel++)
         for (unsigned n = 0; n < positions; n++) {
             int32_t sample = samples[(audio_channel - 1) * positions + n];
@@ -473,6 +452,8 @@ static void compare_salvage(const struct trial *trial, struct tally *tally)
             compare(tally, sample == decoded, "audio channel %u sample %u: decoder %d, library %d", audio_channel, n,
                     decoded, sample);
         }
+    unsigned total = decoder_faults(trial, due);
+    require_list(tally, said, list, RECORD * MOST_BLOCKS, due, total);
 }
 
 static void compare_salvage_written(const struct trial *trial)
@@ -664,15 +645,16 @@ static const struct {
     {"all random", randomize_frame},
 };
 
+/* A list that holds every fault, and one that holds half of them with three entries over. */
 static void compare_survey(const struct trial *trial, struct tally *tally)
 {
     static uint32_t list[RECORD * MOST_BLOCKS], due[RECORD * MOST_BLOCKS];
     unsigned total = decoder_faults(trial, due);
-    for (unsigned which = 0; which < LENGTHS; which++) {
-        size_t length = list_length(which, MOST_BLOCKS, total);
+    size_t lengths[2] = {RECORD * MOST_BLOCKS, RECORD * (size_t)(total / 2) + 3};
+    for (unsigned run = 0; run < 2; run++) {
         clear_list(list, RECORD * MOST_BLOCKS);
-        struct dv100_survey said = dv100_survey(trial->system, trial->frame, trial->frame_bytes, list, length);
-        require_list(tally, said, list, MOST_BLOCKS, length, due, total);
+        struct dv100_survey said = dv100_survey(trial->system, trial->frame, trial->frame_bytes, list, lengths[run]);
+        require_list(tally, said, list, lengths[run], due, total);
     }
     tally->compared = total;
 }
@@ -692,16 +674,14 @@ static void compare_survey_sequences(const struct trial *trial, struct tally *ta
     const uint32_t *next = due, *end = due + RECORD * decoder_faults(trial, due);
     for (unsigned dif_channel = 0; dif_channel < PAPER_DIF_CHANNELS; dif_channel++)
         for (unsigned dif_sequence = 0; dif_sequence < trial->map->system->dif_sequences; dif_sequence++) {
+            uint32_t list[RECORD * PAPER_PLACES];
             unsigned total = faults_of_sequence(next, end, dif_channel, dif_sequence);
-            for (unsigned which = 0; which < LENGTHS; which++) {
-                uint32_t list[RECORD * PAPER_PLACES];
-                size_t length = list_length(which, PAPER_PLACES, total);
-                clear_list(list, RECORD * PAPER_PLACES);
-                struct dv100_survey said =
-                    dv100_survey_sequence(trial->system, dif_channel, dif_sequence,
-                                          block_at(trial, dif_channel, dif_sequence, 0), SEQUENCE_BYTES, list, length);
-                require_list(tally, said, list, PAPER_PLACES, length, next, total);
-            }
+            clear_list(list, RECORD * PAPER_PLACES);
+            struct dv100_survey said =
+                dv100_survey_sequence(trial->system, dif_channel, dif_sequence,
+                                      trial->frame + paper_place_start(trial->map->system, dif_channel, dif_sequence, 0),
+                                      SEQUENCE_BYTES, list, RECORD * PAPER_PLACES);
+            require_list(tally, said, list, RECORD * PAPER_PLACES, next, total);
             next += RECORD * total;
             tally->compared++;
         }
@@ -1408,30 +1388,6 @@ static void compare_known_as(struct trial *trial)
                      "known %s, AS of audio channel 1, 1602 samples: 50 56 10 C3 C0", trial->map->system->name);
 }
 
-/* The record of the one block that has a wrong ID. */
-static void compare_known_record(struct trial *trial, const uint8_t id[3], const uint32_t known[RECORD])
-{
-    static uint32_t decoder[RECORD * MOST_BLOCKS];
-    uint32_t library[2 * RECORD] = {0};
-    plain_content(trial);
-    write_frame(trial);
-    memcpy(trial->frame + paper_place_start(trial->map->system, known[0], known[1], known[2]), id, 3);
-    unsigned total = decoder_faults(trial, decoder);
-    struct dv100_survey said = dv100_survey(trial->system, trial->frame, trial->frame_bytes, library, 2 * RECORD);
-    print_three_ways(total == 1 && memcmp(decoder, known, RECORD * sizeof *known) == 0,
-                     said.number == 0 && said.total == 1 && said.kept == 1 && memcmp(library, known, RECORD * sizeof *known) == 0,
-                     "known %s, ID %02X %02X %02X found: record %u %u %u %u %u", trial->map->system->name, id[0], id[1], id[2],
-                     known[0], known[1], known[2], known[3], known[4]);
-}
-
-/* The zeroed block of the printed example, and the known IDs each in the other's place. */
-static void compare_known_records(struct trial *trial)
-{
-    compare_known_record(trial, (const uint8_t[3]){0x00, 0x00, 0x00}, (const uint32_t[RECORD]){1, 3, 22, 12, 0});
-    compare_known_record(trial, (const uint8_t[3]){0x1f, 0x07, 0x00}, (const uint32_t[RECORD]){3, 9, 149, 12, 2033408});
-    compare_known_record(trial, (const uint8_t[3]){0x9f, 0x9b, 0x86}, (const uint32_t[RECORD]){0, 0, 0, 12, 10460038});
-}
-
 static void compare_known(struct trial *trial)
 {
     plain_content(trial);
@@ -1440,7 +1396,6 @@ static void compare_known(struct trial *trial)
     compare_known_places(trial);
     compare_known_macroblocks(trial);
     compare_known_samples(trial);
-    compare_known_records(trial);
     if (!trial->map->system->is_50_hz)
         compare_known_as(trial);
 }
@@ -1556,7 +1511,7 @@ static void compare_all_ids(void)
         struct dv100_id said = dv100_read_id(id, 3);
         struct paper_id due = paper_read_id(id);
         struct paper_spare spare = paper_read_spare(id);
-        require(&read, tells_id(due, spare, id) && paper_id_bits(id) == word, "%06X, the decoder alone", word);
+        require(&read, tells_id(due, spare, id), "%06X, the decoder alone", word);
         if (due.section >= PAPER_RESERVED_FROM) {
             compare(&read, library_refuses(said, 11), "%06X", word);
             continue;
@@ -1566,47 +1521,6 @@ static void compare_all_ids(void)
     }
     print_tally(&read);
     print_tally(&told);
-}
-
-enum { AT_A_TIME = 128, FIRST_PLACE = PAPER_PLACES - AT_A_TIME };
-
-/* IDs from a word on in the last blocks of a sequence, whose other blocks name their place: the records that are due; how many. */
-static unsigned put_ids(struct trial *trial, struct sequence of, unsigned word, uint32_t due[RECORD * PAPER_PLACES])
-{
-    unsigned total = 0;
-    for (unsigned place = FIRST_PLACE; place < PAPER_PLACES; place++, word++) {
-        uint8_t *block = trial->frame + paper_place_start(trial->map->system, of.dif_channel, of.dif_sequence, place);
-        block[0] = (uint8_t)(word >> 16);
-        block[1] = (uint8_t)(word >> 8);
-        block[2] = (uint8_t)word;
-        unsigned fault = paper_fault(trial->map, trial->frame, of.dif_channel, of.dif_sequence, place);
-        const uint32_t record[RECORD] = {of.dif_channel, of.dif_sequence, place, fault, word};
-        if (fault)
-            memcpy(due + RECORD * total++, record, sizeof record);
-    }
-    return total;
-}
-
-/* Every ID that three bytes can be, in each sequence in turn: if it is not the place's, it is listed as it was found. */
-static void compare_all_found(struct trial *trial)
-{
-    struct tally tally = tally_of("IDs", "dv100_survey_sequence, every ID in a record");
-    unsigned dif_sequences = trial->map->system->dif_sequences, sequences = PAPER_DIF_CHANNELS * dif_sequences;
-    plain_content(trial);
-    write_frame(trial);
-    for (unsigned word = 0; word < 1u << 24; word += AT_A_TIME) {
-        uint32_t list[RECORD * PAPER_PLACES], due[RECORD * PAPER_PLACES];
-        unsigned at = word / AT_A_TIME % sequences;
-        struct sequence of = {at / dif_sequences, at % dif_sequences};
-        unsigned total = put_ids(trial, of, word, due);
-        clear_list(list, RECORD * PAPER_PLACES);
-        struct dv100_survey said =
-            dv100_survey_sequence(trial->system, of.dif_channel, of.dif_sequence,
-                                  block_at(trial, of.dif_channel, of.dif_sequence, 0), SEQUENCE_BYTES, list, RECORD * PAPER_PLACES);
-        require_list(&tally, said, list, PAPER_PLACES, RECORD * PAPER_PLACES, due, total);
-        tally.compared += AT_A_TIME;
-    }
-    print_tally(&tally);
 }
 
 /* Other lengths, of ones and of good IDs. */
@@ -1641,8 +1555,6 @@ static void compare_printed(struct trial *trial)
         compare_segments(system);
     compare_all_ids();
     compare_id_lengths();
-    set_up(trial, 0, maps[0].system->counts[0]);
-    compare_all_found(trial);
 }
 
 /* ---- 5. audio channels marked 1111, invalid audio data */
@@ -2176,9 +2088,9 @@ struct all_answers {
 static void answer_sequence(const struct trial *trial, struct sequence of, struct all_answers *answers)
 {
     unsigned i = of.dif_channel, dseq = of.dif_sequence;
-    answers->sequences[i][dseq].said =
-        dv100_survey_sequence(trial->system, i, dseq, block_at(trial, i, dseq, 0), SEQUENCE_BYTES,
-                              answers->sequences[i][dseq].list, RECORD * PAPER_PLACES);
+    const uint8_t *bytes = trial->frame + paper_place_start(trial->map->system, i, dseq, 0);
+    answers->sequences[i][dseq].said = dv100_survey_sequence(trial->system, i, dseq, bytes, SEQUENCE_BYTES,
+                                                             answers->sequences[i][dseq].list, RECORD * PAPER_PLACES);
     for (unsigned place = 0; place < PAPER_PLACES; place++)
         answers->views[i][dseq][place] = dv100_view(trial->system, trial->frame, trial->frame_bytes, i, dseq, place);
 }
@@ -2256,9 +2168,9 @@ static void set_spare(struct trial *trial, enum spare_bits bits, struct paper_sp
     }
 }
 
-/* Tallies of a written frame's answers, of its IDs, and of those in the lists. */
+/* Tallies of a written frame's answers, and of its IDs. */
 struct spare_tallies {
-    struct tally calls[ANSWERED], ids, listed;
+    struct tally calls[ANSWERED], ids;
 };
 
 /* Every ID answers the bits as they were set, but one of a reserved section. */
@@ -2274,45 +2186,16 @@ static void compare_spare_ids(const struct trial *trial, struct tally *tally, co
     }
 }
 
-/* Whether a record is of a block of the frame, and ends in its ID as it stands. */
-static int ends_in_id(const struct trial *trial, const uint32_t record[RECORD])
-{
-    return record[0] < PAPER_DIF_CHANNELS && record[1] < trial->map->system->dif_sequences && record[2] < PAPER_PLACES &&
-           record[4] == paper_id_bits(block_at(trial, record[0], record[1], record[2]));
-}
-
-/* The IDs in a list for so many blocks are its own frame's. They are taken out: for other spare bits the rest is the same. */
-static void take_out_ids(const struct trial *trial, struct tally *tally, unsigned kept, uint32_t *list, unsigned blocks)
-{
-    for (uint32_t *record = list; record < list + RECORD * (kept < blocks ? kept : blocks); record += RECORD) {
-        compare(tally, ends_in_id(trial, record), "(%u,%u,%u): ID %06X", record[0], record[1], record[2], record[4]);
-        record[4] = 0;
-    }
-}
-
-static void take_out_all_ids(const struct trial *trial, struct tally *tally, struct all_answers *answers)
-{
-    struct answers *frame = &answers->any_state;
-    take_out_ids(trial, tally, frame->survey.said.kept, frame->survey.list, MOST_BLOCKS);
-    take_out_ids(trial, tally, frame->salvage.said.kept, frame->salvage.list, MOST_BLOCKS);
-    for (unsigned i = 0; i < PAPER_DIF_CHANNELS; i++)
-        for (unsigned dseq = 0; dseq < trial->map->system->dif_sequences; dseq++)
-            take_out_ids(trial, tally, answers->sequences[i][dseq].said.kept, answers->sequences[i][dseq].list, PAPER_PLACES);
-}
-
-/* A frame in any state, then with these bits set otherwise: each call gives the same, but for the IDs in the lists. The lines tell
- * a call's first number. */
+/* A frame in any state, then with these bits set otherwise: each call gives the same. The lines tell a call's first number. */
 static void compare_spare(struct trial *trial, struct spare_tallies *tallies, const char *pattern)
 {
     static struct all_answers before, after;
     static struct paper_spare set[MOST_BLOCKS];
     struct questions questions = random_questions(trial);
     answer_all(trial, &questions, &before);
-    take_out_all_ids(trial, &tallies->listed, &before);
     for (enum spare_bits bits = ZEROS; bits < SPARE_BITS; bits++) {
         set_spare(trial, bits, set);
         answer_all(trial, &questions, &after);
-        take_out_all_ids(trial, &tallies->listed, &after);
         for (unsigned at = 0; at < ANSWERED; at++) {
             const char *one = (const char *)&before + answered[at].from, *other = (const char *)&after + answered[at].from;
             if (at >= FIRST_JUDGING)
@@ -2329,7 +2212,6 @@ static void spare_and_compare(struct trial *trial, unsigned system, unsigned cou
     struct spare_tallies tallies;
     set_up(trial, system, count);
     tallies.ids = tally_of_trial(trial, "IDs", "other spare bits, dv100_read_id");
-    tallies.listed = tally_of_trial(trial, "records", "other spare bits, each list has the IDs of its own frame");
     for (unsigned at = 0; at < ANSWERED; at++)
         tallies.calls[at] = tally_of("frames", "%s, %u samples, other spare bits, %s", trial->map->system->name, count,
                                      answered[at].call);
@@ -2346,7 +2228,6 @@ static void spare_and_compare(struct trial *trial, unsigned system, unsigned cou
         compare_spare(trial, &tallies, "a cause of a refusal");
     }
     print_tally(&tallies.ids);
-    print_tally(&tallies.listed);
     for (unsigned at = 0; at < ANSWERED; at++)
         print_tally(&tallies.calls[at]);
 }

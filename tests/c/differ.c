@@ -13,7 +13,6 @@
 #include <sys/mman.h>
 
 enum { SYSTEMS = 4, DIF_CHANNELS = 4, PLACES = 150, BLOCK = 80, SEQUENCE = 12000, LONGEST = 576000 };
-enum { MOST_BLOCKS = LONGEST / BLOCK, MOST_LIST = (DV100_RECORD + 1) * MOST_BLOCKS + 2 * DV100_RECORD };
 enum { LIBRARY, PLAIN, SIDES };
 
 #define COUNT(table) (sizeof(table) / sizeof *(table))
@@ -175,7 +174,7 @@ static struct buffer buffers[BUFFERS] = {
     [ID] = {.name = "id", .room = 16, .unit = 1},
     [BYTES] = {.name = "bytes", .room = 2 * SEQUENCE, .unit = 1},
     [FRAME] = {.name = "frame", .room = LONGEST + SEQUENCE, .unit = 1},
-    [LIST] = {.name = "list", .room = MOST_LIST * 4, .unit = 4},
+    [LIST] = {.name = "list", .room = 40000 * 4, .unit = 4},
     [SAMPLES] = {.name = "samples", .room = 2 * 8 * 1944 * 4, .unit = 4},
     [SOUND] = {.name = "sound", .room = 2 * 8 * 1944 * 4, .unit = 4},
     [MACROBLOCKS] = {.name = "macroblocks", .room = 77 * 6200, .unit = 1},
@@ -358,15 +357,13 @@ static size_t length_about(size_t right)
     }
 }
 
-/* Some numbers more or fewer than whole records have, or than they would have if a record were narrower or wider by one. */
 static size_t list_length(void)
 {
-    static const uint32_t records[] = {0, 1, 1, 2, 2, 3, 4, 64, 150, 6000, MOST_BLOCKS};
-    if (percent(20))
-        return below(600);
-    uint32_t width = percent(60) ? DV100_RECORD : DV100_RECORD - 1 + 2 * below(2);
-    uint32_t length = PICK(records) * width + below(2 * DV100_RECORD);
-    return length < DV100_RECORD ? length : length - DV100_RECORD;
+    static const size_t some[] = {0, 1, 2, 3, 4, 5, 7, 8, 255, 256};
+    static const size_t many[] = {24000, 28800, 28801, 40000};
+    if (percent(30))
+        return PICK(many);
+    return percent(70) ? PICK(some) : below(600);
 }
 
 /* ---- Frames */
@@ -440,15 +437,6 @@ static void reserve_section(struct scene *scene)
     block[0] = (uint8_t)((block[0] & 0x1F) | (5 + below(3)) << 5);
 }
 
-/* Three bytes of any kind: the edges of a byte and of the sections, or noise. */
-static void strange_id(struct scene *scene)
-{
-    static const uint8_t edges[] = {0x00, 0x01, 0x1F, 0x7F, 0x80, 0x9F, 0xA0, 0xFE, 0xFF};
-    uint8_t *block = block_of(scene);
-    for (uint32_t byte = 0; byte < 3; byte++)
-        block[byte] = percent(50) ? PICK(edges) : (uint8_t)draw();
-}
-
 static void damage_audio_id(struct scene *scene)
 {
     scene->place = 6 + 16 * below(9);
@@ -476,10 +464,8 @@ static void stain_many(struct scene *scene)
 {
     for (uint32_t left = 1 + below(200); left > 0; left--) {
         look_somewhere(scene);
-        if (percent(30))
+        if (percent(50))
             flip_id_bit(scene);
-        else if (percent(50))
-            strange_id(scene);
         else
             noise_block(scene);
     }
@@ -724,8 +710,8 @@ static void change_words(struct scene *scene)
 
 typedef void damage(struct scene *scene);
 
-static damage *const to_blocks[] = {zero_block,  ones_block,  noise_block,     flip_any_bit,  flip_id_bit, reserve_section,
-                                    strange_id,  swap_blocks, damage_audio_id, move_sequence, stain_many};
+static damage *const to_blocks[] = {zero_block,  ones_block,      noise_block,   flip_any_bit, flip_id_bit, reserve_section,
+                                    swap_blocks, damage_audio_id, move_sequence, stain_many};
 
 static damage *const to_packs[] = {
     flip_header_bit, flip_rate,     set_flag,       set_flag,       flip_header_bits, flip_vs_bit,   change_vs_byte,
@@ -1007,77 +993,15 @@ static bool survey_answered(enum call call, struct dv100_survey library, struct 
     return answered(call, survey_fields, said, wanted, COUNT(said));
 }
 
-/* The number of a sequence's first block in the system's stream. */
-static uint32_t first_block(const struct scene *scene, uint32_t channel, uint32_t sequence)
+static void try_survey(const struct scene *scene)
 {
-    return (facts[scene->system].sequences * channel + sequence) * PLACES;
-}
-
-/* Records of lent blocks, from block `first` of the stream on: each ends in the first three bytes of its own block. */
-static void ids_as_found(const struct scene *scene, const uint32_t *list, uint32_t kept, enum lent blocks, uint32_t first)
-{
-    for (uint32_t number = 0; number < kept; number++) {
-        const uint32_t *record = list + (size_t)number * DV100_RECORD;
-        uint32_t block = first_block(scene, record[0], record[1]) + record[2] - first;
-        bool lent = block < elements(blocks) / BLOCK;
-        const uint8_t *id = content(blocks) + (lent ? (size_t)block * BLOCK : 0);
-        if (!lent || record[4] != 65536u * id[0] + 256u * id[1] + id[2]) {
-            difference("record %" PRIu32 " ends in %06" PRIX32 ", which is not the ID of its block", number, record[4]);
-            return;
-        }
-    }
-}
-
-/* The library's list after a survey of lent blocks that has gone through, apart from what plain C says of it. */
-static void records_kept(const struct scene *scene, uint32_t kept, enum lent blocks, uint32_t first)
-{
-    struct buffer *list = &buffers[LIST];
-    uint32_t room = (uint32_t)(elements(LIST) / DV100_RECORD), records = kept < room ? kept : room;
-    ids_as_found(scene, lend(LIST, LIBRARY), records, blocks, first);
-    compare(list, "behind the last record", list->side[LIBRARY], list->before,
-            list->start + (size_t)records * DV100_RECORD * list->unit, whole(list));
-}
-
-static void ask_survey(const struct scene *scene)
-{
+    set_length(LIST, list_length());
     size_t length = elements(FRAME), list = elements(LIST);
     ask("survey, system %" PRIu32 ", frame %zu, list %zu", scene->system, length, list);
     struct dv100_survey library = dv100_survey(scene->system, lend(FRAME, LIBRARY), length, lend(LIST, LIBRARY), list);
     struct dv100_survey plain = plain_survey(scene->system, lend(FRAME, PLAIN), length, lend(LIST, PLAIN), list);
     bool success = survey_answered(SURVEY, library, plain);
     unchanged(FRAME);
-    if (success)
-        records_kept(scene, library.kept, FRAME, 0);
-    changed(LIST, success);
-}
-
-static void try_survey(const struct scene *scene)
-{
-    set_length(LIST, list_length());
-    ask_survey(scene);
-}
-
-/* Lends the bytes of the scene's sequence. */
-static void make_sequence(const struct scene *scene)
-{
-    set_length(BYTES, SEQUENCE);
-    memcpy(content(BYTES), sequence_of(scene), SEQUENCE);
-    share(BYTES, SEQUENCE);
-}
-
-static void ask_survey_sequence(const struct scene *scene, uint32_t channel, uint32_t sequence)
-{
-    size_t length = elements(BYTES), list = elements(LIST);
-    ask("survey_sequence, system %" PRIu32 ", channel %" PRIu32 ", sequence %" PRIu32 ", %zu bytes, list %zu", scene->system,
-        channel, sequence, length, list);
-    struct dv100_survey library =
-        dv100_survey_sequence(scene->system, channel, sequence, lend(BYTES, LIBRARY), length, lend(LIST, LIBRARY), list);
-    struct dv100_survey plain =
-        plain_survey_sequence(scene->system, channel, sequence, lend(BYTES, PLAIN), length, lend(LIST, PLAIN), list);
-    bool success = survey_answered(SURVEY_SEQUENCE, library, plain);
-    unchanged(BYTES);
-    if (success)
-        records_kept(scene, library.kept, BYTES, first_block(scene, channel, sequence));
     changed(LIST, success);
 }
 
@@ -1086,13 +1010,24 @@ static void try_survey_sequence(const struct scene *scene)
     struct scene here = *scene;
     if (percent(50))
         look_somewhere(&here);
-    make_sequence(&here);
+    set_length(BYTES, SEQUENCE);
+    memcpy(content(BYTES), sequence_of(&here), SEQUENCE);
+    share(BYTES, SEQUENCE);
     set_length(LIST, list_length());
     uint32_t channel = percent(80) ? here.channel : number_below(DIF_CHANNELS);
     uint32_t sequence = percent(80) ? here.sequence : number_below(12);
     if (percent(10))
         lend_bytes(&buffers[BYTES], length_about(SEQUENCE));
-    ask_survey_sequence(&here, channel, sequence);
+    size_t length = elements(BYTES), list = elements(LIST);
+    ask("survey_sequence, system %" PRIu32 ", channel %" PRIu32 ", sequence %" PRIu32 ", %zu bytes, list %zu", here.system, channel,
+        sequence, length, list);
+    struct dv100_survey library =
+        dv100_survey_sequence(here.system, channel, sequence, lend(BYTES, LIBRARY), length, lend(LIST, LIBRARY), list);
+    struct dv100_survey plain =
+        plain_survey_sequence(here.system, channel, sequence, lend(BYTES, PLAIN), length, lend(LIST, PLAIN), list);
+    bool success = survey_answered(SURVEY_SEQUENCE, library, plain);
+    unchanged(BYTES);
+    changed(LIST, success);
 }
 
 static void part_answered(enum call call, struct dv100_part library, struct dv100_part plain)
@@ -1230,8 +1165,10 @@ static void ask_read_time(const struct scene *scene)
     answered(READ_TIME, time_fields, said, wanted, COUNT(said));
 }
 
-static void ask_salvage(const struct scene *scene)
+static void try_salvage(const struct scene *scene)
 {
+    set_length(SAMPLES, length_about((size_t)8 * facts[scene->made].positions));
+    set_length(LIST, list_length());
     size_t length = elements(FRAME), samples = elements(SAMPLES), list = elements(LIST);
     ask("salvage, system %" PRIu32 ", frame %zu, samples %zu, list %zu", scene->system, length, samples, list);
     struct dv100_survey library = dv100_salvage(scene->system, lend(FRAME, LIBRARY), length, lend(SAMPLES, LIBRARY), samples,
@@ -1240,17 +1177,8 @@ static void ask_salvage(const struct scene *scene)
         plain_salvage(scene->system, lend(FRAME, PLAIN), length, lend(SAMPLES, PLAIN), samples, lend(LIST, PLAIN), list);
     bool success = survey_answered(SALVAGE, library, plain);
     unchanged(FRAME);
-    if (success)
-        records_kept(scene, library.kept, FRAME, 0);
     changed(SAMPLES, success);
     changed(LIST, success);
-}
-
-static void try_salvage(const struct scene *scene)
-{
-    set_length(SAMPLES, length_about((size_t)8 * facts[scene->made].positions));
-    set_length(LIST, list_length());
-    ask_salvage(scene);
 }
 
 /* The count that the first AS of an audio channel says; where it says none, one that the system has. */
@@ -1444,102 +1372,6 @@ static void sweep_bytes(const struct scene *scene, uint8_t *bytes, size_t count,
             copy_to_sides(&buffers[FRAME], (size_t)(byte - buffers[FRAME].before), 1);
             question(scene);
         }
-    }
-}
-
-/* ---- Sweeps of surveys */
-
-static void give_strange_ids(struct scene *scene, uint8_t *bytes, uint32_t chances)
-{
-    (void)bytes;
-    for (scene->place = 0; scene->place < PLACES; scene->place++)
-        if (percent(chances))
-            strange_id(scene);
-}
-
-/* A written frame with any spare bits, of which so many blocks in a hundred have a strange ID. */
-static void make_strange(struct scene *scene, uint32_t chances)
-{
-    set_length(FRAME, frame_size(scene->made));
-    memcpy(content(FRAME), pool[scene->made][0], frame_size(scene->made));
-    everywhere(scene, give_spare_bits, ANY_SPARE);
-    everywhere(scene, give_strange_ids, chances);
-    share(FRAME, frame_size(scene->made));
-}
-
-static void ask_surveys(const struct scene *scene, size_t length)
-{
-    set_length(LIST, length);
-    ask_survey(scene);
-    set_length(LIST, length);
-    ask_salvage(scene);
-    set_length(LIST, length);
-    ask_survey_sequence(scene, scene->channel, scene->sequence);
-}
-
-/* Lists of every length up to some records, and about as long as the faults of the sequence and of the frame want, by each width
- * that a record could be taken to have. */
-static void sweep_list_lengths(const struct scene *scene)
-{
-    uint32_t totals[] = {
-        plain_survey_sequence(scene->system, scene->channel, scene->sequence, lend(BYTES, PLAIN), SEQUENCE, NULL, 0).total,
-        plain_survey(scene->system, lend(FRAME, PLAIN), elements(FRAME), NULL, 0).total,
-    };
-    for (size_t length = 0; length <= 8 * DV100_RECORD; length++)
-        ask_surveys(scene, length);
-    for (size_t total = 0; total < COUNT(totals); total++)
-        for (size_t width = DV100_RECORD - 1; width <= DV100_RECORD + 1; width++) {
-            size_t about = totals[total] * width;
-            for (size_t length = about < DV100_RECORD ? 0 : about - DV100_RECORD; length <= about + DV100_RECORD; length++)
-                ask_surveys(scene, length);
-        }
-}
-
-/* With other spare bits the same blocks are listed, with the same faults, and each with the ID that it then has. */
-static void sweep_spare_lists(struct scene *scene)
-{
-    static uint32_t lists[2][DV100_RECORD * MOST_BLOCKS];
-    struct dv100_survey said[2];
-    ask("survey, system %" PRIu32 ", with other spare bits", scene->system);
-    for (int turn = 0; turn < 2; turn++) {
-        everywhere(scene, give_spare_bits, ANY_SPARE);
-        share(FRAME, frame_size(scene->made));
-        said[turn] = dv100_survey(scene->system, lend(FRAME, LIBRARY), elements(FRAME), lists[turn], COUNT(lists[turn]));
-        if (said[turn].kept > MOST_BLOCKS)
-            said[turn].kept = MOST_BLOCKS;
-        ids_as_found(scene, lists[turn], said[turn].kept, FRAME, 0);
-    }
-    if (said[0].total != said[1].total || said[0].kept != said[1].kept)
-        difference("total or kept differs");
-    for (uint32_t number = 0; number < said[0].kept; number++)
-        if (memcmp(lists[0] + number * DV100_RECORD, lists[1] + number * DV100_RECORD, 4 * sizeof **lists) != 0)
-            difference("record %" PRIu32 " differs", number);
-}
-
-static void ask_own_sequence(const struct scene *scene)
-{
-    make_sequence(scene);
-    set_length(LIST, 2 * DV100_RECORD);
-    ask_survey_sequence(scene, scene->channel, scene->sequence);
-}
-
-/* A block in two, one in a hundred, every block; then every value of each byte of an ID, in a sequence without another fault. */
-static void sweep_surveys(uint32_t system)
-{
-    static const uint32_t chances[] = {50, 1, 100};
-    struct scene scene = {.made = system, .system = system};
-    set_length(SAMPLES, (size_t)8 * facts[system].positions);
-    for (size_t chance = 0; chance < COUNT(chances); chance++) {
-        make_strange(&scene, chances[chance]);
-        look_somewhere(&scene);
-        make_sequence(&scene);
-        sweep_list_lengths(&scene);
-        sweep_spare_lists(&scene);
-    }
-    make_strange(&scene, 0);
-    for (uint32_t turn = 0; turn < 3; turn++) {
-        look_somewhere(&scene);
-        sweep_bytes(&scene, block_of(&scene), 3, true, ask_own_sequence);
     }
 }
 
@@ -1842,7 +1674,6 @@ static void sweep_frame(uint32_t system)
     unchanged(FRAME);
     unchanged(SOUND);
     sweep_written_time(&scenes[0]);
-    sweep_surveys(system);
     sweep_replacing(system);
 }
 

@@ -96,36 +96,20 @@ static int make_frames(uint32_t system, uint32_t every, int counts, char **count
     return 0;
 }
 
-/* the three bytes that stand as a block's ID, as one number */
-static uint32_t id_at(uint32_t system, uint32_t channel, uint32_t sequence, uint32_t place)
-{
-    const uint8_t *id = frame + ((sequences(system) * channel + sequence) * 150 + place) * 80;
-    return 65536u * id[0] + 256u * id[1] + id[2];
-}
-
-/* the blocks that do not name their place: how many, the first, how many have each fault, the first IDs of them, and how many have
- * the ID of the block two DIF channels before */
+/* the blocks that do not name their place: how many, the first, and how many have each fault */
 static void print_faults(uint32_t system)
 {
-    static uint32_t list[DV100_RECORD * FRAME_MOST / 80];
-    uint32_t of_fault[16] = {0}, of_another = 0;
+    static uint32_t list[4 * FRAME_MOST / 80];
+    uint32_t of_fault[16] = {0};
     struct dv100_survey survey = dv100_survey(system, frame, frame_length(system), list, sizeof list / sizeof *list);
-    const uint32_t *end = list + DV100_RECORD * survey.kept;
-    for (const uint32_t *record = list; record < end; record += DV100_RECORD) {
-        of_fault[record[3] & 15]++;
-        of_another += record[0] >= 2 && record[4] == id_at(system, record[0] - 2, record[1], record[2]);
-    }
+    for (uint32_t i = 0; i < survey.kept; i++)
+        of_fault[list[4 * i + 3] & 15]++;
     printf("%u blocks misplaced", survey.total);
-    if (survey.kept == 0)
-        return;
-    printf(" from DIF channel %u sequence %u place %u on", list[0], list[1], list[2]);
+    if (survey.kept)
+        printf(" from DIF channel %u sequence %u place %u on", list[0], list[1], list[2]);
     for (uint32_t fault = 0; fault < 16; fault++)
         if (of_fault[fault])
             printf(", %u with fault %u", of_fault[fault], fault);
-    printf(", their IDs");
-    for (const uint32_t *record = list; record < end && record < list + 4 * DV100_RECORD; record += DV100_RECORD)
-        printf(" %06X", record[4]);
-    printf(" and on, %u those of two DIF channels before", of_another);
 }
 
 /* the refusal of new samples for an audio channel, in a copy of the frame: as many as its count, and where the read is refused,

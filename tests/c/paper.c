@@ -96,15 +96,6 @@ void paper_write_id(struct paper_id named, uint8_t id[3])
     paper_write_all(named, (struct paper_spare){0xf, 7}, id);
 }
 
-/* Table 1, bit by bit from the MSB of ID0. */
-uint32_t paper_id_bits(const uint8_t id[3])
-{
-    uint32_t bits = 0;
-    for (unsigned bit = 0; bit < 24; bit++)
-        bits = bits << 1 | (id[bit / 8] >> (7 - bit % 8) & 1);
-    return bits;
-}
-
 struct paper_id paper_id_of_place(const struct paper_map *map, unsigned dif_channel, unsigned dif_sequence, unsigned place)
 {
     struct paper_id id = map->figure_3[place];

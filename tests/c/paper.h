@@ -9,7 +9,6 @@
  *   zeros that are written from the count on;
  * - fault and refusal numbers, what each is given for, their order, and which bits are judged;
  * - that an ID's bits which name nothing are answered, and as which two numbers;
- * - the numbers of a faulty block's record, the last of them its ID as it stands;
  * - bit 6 of the time code's PC1 at 50 Hz, which is not compared and is answered as 1;
  * - FFh as PC4 of VS; VSC and ASC as a header and four FFh. */
 #ifndef PAPER_H
@@ -105,9 +104,6 @@ struct paper_id paper_read_id(const uint8_t id[3]);
 struct paper_spare paper_read_spare(const uint8_t id[3]);
 void paper_write_all(struct paper_id named, struct paper_spare spare, uint8_t id[3]);
 void paper_write_id(struct paper_id named, uint8_t id[3]);
-
-/* The 24 bits of an ID as one number, whatever they name: ID0, ID1, ID2 from the highest down. */
-uint32_t paper_id_bits(const uint8_t id[3]);
 
 /* The ID that belongs to a place. */
 struct paper_id paper_id_of_place(const struct paper_map *map, unsigned dif_channel, unsigned dif_sequence, unsigned place);

@@ -122,15 +122,14 @@ struct notes {
     uint32_t total;
 };
 
-static void note(struct notes *notes, uint32_t channel, uint32_t sequence, uint32_t place, uint32_t fault, const uint8_t *block)
+static void note(struct notes *notes, uint32_t channel, uint32_t sequence, uint32_t place, uint32_t fault)
 {
     if (notes->total < notes->room) {
-        uint32_t *record = notes->list + (size_t)notes->total * DV100_RECORD;
+        uint32_t *record = notes->list + (size_t)notes->total * 4;
         record[0] = channel;
         record[1] = sequence;
         record[2] = place;
         record[3] = fault;
-        record[4] = (uint32_t)block[0] << 16 | (uint32_t)block[1] << 8 | block[2];
     }
     notes->total++;
 }
@@ -142,10 +141,9 @@ static bool survey_next(const uint8_t *bytes, uint32_t channel, uint32_t sequenc
     if (all_name_their_place(bytes, common))
         return true;
     for (uint32_t place = 0; place < PLACES; place++) {
-        const uint8_t *block = bytes + (size_t)place * BLOCK;
-        uint32_t fault = fault_of(load_id(block), place_ids[place] | common);
+        uint32_t fault = fault_of(load_id(bytes + (size_t)place * BLOCK), place_ids[place] | common);
         if (fault)
-            note(notes, channel, sequence, place, fault, block);
+            note(notes, channel, sequence, place, fault);
     }
     return false;
 }
@@ -165,7 +163,7 @@ struct dv100_survey plain_survey(uint32_t system, const uint8_t *frame, size_t f
     const struct system *own = &systems[system];
     if (frame_length != frame_size(own))
         return (struct dv100_survey){2, 0, 0};
-    struct notes notes = {list, list_length / DV100_RECORD, 0};
+    struct notes notes = {list, list_length / 4, 0};
     for (uint32_t channel = 0; channel < DIF_CHANNELS; channel++)
         for (uint32_t sequence = 0; sequence < own->sequences; sequence++, frame += SEQUENCE)
             survey_next(frame, channel, sequence, &notes);
@@ -181,7 +179,7 @@ struct dv100_survey plain_survey_sequence(uint32_t system, uint32_t channel, uin
         return (struct dv100_survey){3, 0, 0};
     if (bytes_length != SEQUENCE)
         return (struct dv100_survey){4, 0, 0};
-    struct notes notes = {list, list_length / DV100_RECORD, 0};
+    struct notes notes = {list, list_length / 4, 0};
     survey_next(bytes, channel, sequence, &notes);
     return surveyed(&notes);
 }
@@ -430,7 +428,7 @@ struct dv100_survey plain_salvage(uint32_t system, const uint8_t *frame, size_t 
         return (struct dv100_survey){2, 0, 0};
     if (samples_length != (size_t)own->positions * AUDIO_CHANNELS)
         return (struct dv100_survey){4, 0, 0};
-    struct notes notes = {list, list_length / DV100_RECORD, 0};
+    struct notes notes = {list, list_length / 4, 0};
     for (uint32_t audio_channel = 1; audio_channel <= AUDIO_CHANNELS; audio_channel++, samples += own->positions)
         for (uint32_t row = 0; row < own->half; row++, frame += SEQUENCE)
             salvage_sequence(own, frame, audio_channel, row, samples, &notes);

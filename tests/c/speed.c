@@ -13,7 +13,7 @@
 #include <time.h>
 
 enum { LIBRARY, PLAIN, SIDES };
-enum { BLOCK = 80, SEQUENCE = 12000, LONGEST = 576000, LIST = 64 * DV100_RECORD, ROUNDS = 100 };
+enum { BLOCK = 80, SEQUENCE = 12000, LONGEST = 576000, ROOM = 64, ROUNDS = 100 };
 
 struct measured {
     uint32_t system;
@@ -28,7 +28,7 @@ static const struct measured systems[] = {{0, 480000, 1620, 5400, 1602}, {1, 576
 static const struct measured *own;
 static uint8_t frame[LONGEST], damaged[LONGEST], blank[LONGEST], marked[LONGEST], target[LONGEST], macroblocks[77 * 6075];
 static int32_t sound[8 * 1920], samples[8 * 1944];
-static uint32_t list[LIST];
+static uint32_t list[4 * ROOM];
 static const uint8_t binary_group[4] = {1, 2, 3, 4}, time_code[4] = {0x52, 0x34, 0x45, 0x12};
 
 /* Every answer goes in here, so that no call can be left out. */
@@ -62,18 +62,18 @@ static void take_time(struct dv100_time answer)
 /* One function a call and side; both sides are called alike, from a unit of their own. */
 #define ASK(side)                                                                                                                 \
     static void side##_read_id_row(void) { take_id(side##_read_id(frame, 3)); }                                                   \
-    static void side##_survey_row(void) { take_survey(side##_survey(own->system, frame, own->frame_length, list, LIST)); }        \
+    static void side##_survey_row(void) { take_survey(side##_survey(own->system, frame, own->frame_length, list, 4 * ROOM)); }     \
     static void side##_survey_damaged_row(void)                                                                                   \
     {                                                                                                                             \
-        take_survey(side##_survey(own->system, damaged, own->frame_length, list, LIST));                                          \
+        take_survey(side##_survey(own->system, damaged, own->frame_length, list, 4 * ROOM));                                      \
     }                                                                                                                             \
     static void side##_survey_blank_row(void)                                                                                     \
     {                                                                                                                             \
-        take_survey(side##_survey(own->system, blank, own->frame_length, list, LIST));                                            \
+        take_survey(side##_survey(own->system, blank, own->frame_length, list, 4 * ROOM));                                        \
     }                                                                                                                             \
     static void side##_survey_sequence_row(void)                                                                                  \
     {                                                                                                                             \
-        take_survey(side##_survey_sequence(own->system, 0, 7, frame + 7 * SEQUENCE, SEQUENCE, list, LIST));                       \
+        take_survey(side##_survey_sequence(own->system, 0, 7, frame + 7 * SEQUENCE, SEQUENCE, list, 4 * ROOM));                    \
     }                                                                                                                             \
     static void side##_view_row(void) { take_part(side##_view(own->system, frame, own->frame_length, 2, 7, 77)); }                \
     static void side##_check_row(void) { taken += side##_check(own->system, frame, own->frame_length); }                          \
@@ -96,15 +96,15 @@ static void take_time(struct dv100_time answer)
     static void side##_read_time_row(void) { take_time(side##_read_time(own->system, frame, own->frame_length)); }                \
     static void side##_salvage_row(void)                                                                                          \
     {                                                                                                                             \
-        take_survey(side##_salvage(own->system, frame, own->frame_length, samples, 8 * own->positions, list, LIST));              \
+        take_survey(side##_salvage(own->system, frame, own->frame_length, samples, 8 * own->positions, list, 4 * ROOM));           \
     }                                                                                                                             \
     static void side##_salvage_damaged_row(void)                                                                                  \
     {                                                                                                                             \
-        take_survey(side##_salvage(own->system, damaged, own->frame_length, samples, 8 * own->positions, list, LIST));            \
+        take_survey(side##_salvage(own->system, damaged, own->frame_length, samples, 8 * own->positions, list, 4 * ROOM));         \
     }                                                                                                                             \
     static void side##_salvage_blank_row(void)                                                                                    \
     {                                                                                                                             \
-        take_survey(side##_salvage(own->system, blank, own->frame_length, samples, 8 * own->positions, list, LIST));              \
+        take_survey(side##_salvage(own->system, blank, own->frame_length, samples, 8 * own->positions, list, 4 * ROOM));          \
     }                                                                                                                             \
     static void side##_replace_audio_row(void)                                                                                    \
     {                                                                                                                             \

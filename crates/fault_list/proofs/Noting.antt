@@ -19,7 +19,7 @@ use Rattle.rules_format.specs.Blocks.{block_in}
 use Rattle.rules_format.specs.Faults.{fault_at, fault_of}
 use Rattle.rules_surveys.specs.FaultLists.{block_faults, place_faults, sequence_faults}
 use Rattle.rules_format.specs.Judging.{entry_of}
-use Rattle.rules_format.specs.Ids.{block_answer, id_found}
+use Rattle.rules_format.specs.Ids.{block_answer}
 use Rattle.rules_surveys.specs.Records.{numbers, width, room}
 use Rattle.rules_surveys.specs.Noting.{Noted}
 use Rattle.rules_format.proofs.Places.{entry_printed}
@@ -68,11 +68,10 @@ module _ (block : List ℕ) (h q : ℕ) (p : Place) (e k t : ℕ) (list : List �
     pub fault_clean : f ≡ 0 → Noted list t (block_faults block h q p.0) list t
     fault_clean z = no_record block h q p.0 t list (sym is_fault ∙ z)
 
-    -- x is the ID as found
-    pub fault_noted : (f ≡ 0 → ⊥) → (x : ℕ) → x ≡ id_found block → (list' : List ℕ) (r : ℕ)
-        → Noted list t (record { channel = h; sequence = q; place = p; fault = f; id = x } ∷ []) list' r → Noted list t (block_faults block h q p.0) list' r
+    pub fault_noted : (f ≡ 0 → ⊥) → (list' : List ℕ) (r : ℕ) → Noted list t (record { channel = h; sequence = q; place = p; fault = f } ∷ []) list' r
+        → Noted list t (block_faults block h q p.0) list' r
     unfolding block_faults pick
-    fault_noted d x ex list' r n = rw (ne_eqb (fault_at block h q p.0) 0 (λ z. d (is_fault ∙ z))) (rw (is_fault, ex) at n)
+    fault_noted d list' r n = rw (ne_eqb (fault_at block h q p.0) 0 (λ z. d (is_fault ∙ z))) (rw is_fault at n)
 
 -- ---- survey_part
 

@@ -8,7 +8,7 @@ ghost use Rattle.fault_list.specs.Asked.{tallied};
 use paper::{Fault, Survey};
 
 // How many numbers a record has.
-pub const RECORD: usize = 5;
+pub const RECORD: usize = 4;
 
 // The part becomes the numbers of a record.
 fn put_record(part: &mut [u32], f: Fault)
@@ -19,7 +19,6 @@ fn put_record(part: &mut [u32], f: Fault)
     part[1] = f.sequence;
     part[2] = f.place.0;
     part[3] = f.fault;
-    part[4] = f.id;
 }
 
 // One record more: it is stored where there is room.

@@ -24,10 +24,10 @@ fn survey_block(
     requires t_bound { t < 10000 }
     ensures { Noted list.old t (block_faults block.now h q p.0) list.new result }
 {
+    let id = layout::read_block(block);
     if judged_bits::judged(block) == printed + key {
         return t;
     }
-    let id = layout::read_block(block);
     let fault = faults::fault_of(id, h, q, layout::entry_of(printed));
     if fault == 0 {
         return t;
@@ -40,7 +40,6 @@ fn survey_block(
             sequence: q,
             place: p,
             fault: fault,
-            id: layout::id_found(block),
         },
     )
 }

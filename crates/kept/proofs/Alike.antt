@@ -17,13 +17,10 @@ use Rattle.paper.specs.declared.TimeAnswer.{TimeAnswer}
 use Rattle.paper.specs.Paper.{sequences, positions, sound_channel, sound_first, sample_by, mode_said, slot_place, bytes_at}
 use Rattle.promises.specs.Refusals.{Table, ◌if◌, ◌else◌, audio_table, macroblock_table, time_table}
 use Rattle.promises.specs.Demand1.{Answers}
-use Rattle.promises.specs.Unrecorded.{SameButAudio}
-use Rattle.promises.specs.FoundIds.{SameButIds}
 use Rattle.promises.proofs.Apart.{Gives, Alike, SameAs, SameWords, survey_gives, salvage_gives, check_gives, view_gives, macroblock_gives, time_gives, audio_gives, count_same, mode_same}
-use Rattle.promises.proofs.Apart.{some_sequence, low_section, low_same, bytes_same, slot_section, fault_same, apart_ids, apart_alike, salvage_out_same}
-use Rattle.promises.proofs.FoundIds.{surveys_alike, alike_same}
+use Rattle.promises.proofs.Apart.{some_sequence, low_section, low_same, bytes_same, slot_section, listed_same, salvage_out_same}
 use Rattle.promises.proofs.Tables.{row_past}
-use Rattle.promises.proofs.One.{lists_one, salvage_out_one}
+use Rattle.promises.proofs.One.{lists_one, listed_one, salvage_out_one}
 use Rattle.rules_format.specs.Systems.{system_of}
 use Rattle.rules_format.proofs.Paper.{columns, known_system}
 use Rattle.rules_surveys.specs.Survey.{FrameSurveyed}
@@ -43,18 +40,13 @@ use Rattle.rules_reads.proofs.Audio.{audio_count, audio_zero, audio_taken}
 use Rattle.rules_reads.proofs.Answering.{audio_number_lem}
 use Rattle.rules_reads.proofs.Macroblock.{macroblock_lies_number}
 
--- ---- one call on two inputs: where the table of the one gives what that of the other gives, the number is the same, and a refusal
-
-pub same_number : {Outcome : Type 0} {Meets Meets' : Outcome → Type 0} {answered : Outcome → ℕ} {table table' : Table} {Quiet : Outcome → Type 0} {o o' : Outcome}
-    → Answers Outcome Meets answered table Quiet → Answers Outcome Meets' answered table' Quiet → Gives (answered o) table table' → Meets o → Meets' o'
-    → answered o ≡ answered o'
-same_number {answered = answered} {o = o} {o' = o'} a a' gives m m' = a'.no_other o' m' (answered o) (gives.too (a.numbered o m))
+-- ---- one call on two inputs: where the table of the one gives what that of the other gives, a refusal is the same
 
 pub same_outcome : {Outcome : Type 0} {Meets Meets' : Outcome → Type 0} {answered : Outcome → ℕ} {table table' : Table} {Quiet : Outcome → Type 0} {o o' : Outcome}
     → Answers Outcome Meets answered table Quiet → Answers Outcome Meets' answered table' Quiet → Gives (answered o) table table' → Meets o → Meets' o'
     → (answered o ≡ 0 → answered o' ≡ 0 → o ≡ o') → o ≡ o'
 same_outcome {answered = answered} {o = o} {o' = o'} a a' gives m m' zero =
-    let same : answered o ≡ answered o' = same_number a a' gives m m' in
+    let same : answered o ≡ answered o' = a'.no_other o' m' (answered o) (gives.too (a.numbered o m)) in
     by_eq (answered o) 0 (λ z. zero z (sym same ∙ z)) (λ d. a.told o o' d same (a.refused o m d) (a'.refused o' m' (λ z. d (same ∙ z))))
 
 -- where a table gives 0, the system is known, and the frame has its length
@@ -68,9 +60,6 @@ first_rows {k} {size} t =
 -- two outcomes that are the same are so in each part
 pub two_parts : {A B : Type 0} {a a' : A} {b b' : B} → ◌≡◌ {A = A × B} (a, b) (a', b') → (a ≡ a') × (b ≡ b')
 two_parts {A} {B} e = (ap (λ (o : A × B). o.0) e, ap (λ (o : A × B). o.1) e)
-
-three_parts : {A B C : Type 0} {a a' : A} {b b' : B} {c c' : C} → ◌≡◌ {A = A × B × C} (a, b, c) (a', b', c') → (a ≡ a') × (b ≡ b') × (c ≡ c')
-three_parts {A} {B} {C} e = (ap (λ (o : A × B × C). o.0) e, ap (λ (o : A × B × C). o.1) e, ap (λ (o : A × B × C). o.2) e)
 
 -- ---- read_audio
 
@@ -137,45 +126,24 @@ same_audio {k} {f} {g} {c} {samples} {heard} {heard'} {r} {r'} s a w read read' 
 pub same_check : {k : ℕ} {f g : List ℕ} {r r' : ℕ} → Alike k f g → Checked k f r → Checked k g r' → r ≡ r'
 same_check {k} {f} {g} s a a' = same_outcome (reads.check_answers k f) (reads.check_answers k g) (check_gives s) a a' (λ z z'. z ∙ sym z')
 
--- a survey: its answer, and its list but for the IDs
-pub alike_survey : {k : ℕ} {f g list list₁ list₂ : List ℕ} {r r' : Survey} → Alike k f g → FrameSurveyed k f list r list₁ → FrameSurveyed k g list r' list₂
-    → (r ≡ r') × SameButIds (sequences k) f g 0 (600 * sequences k) r.kept list₁ list₂
-alike_survey {k} {f} {g} {list} {list₁} {list₂} {r} {r'} s a a' =
-    let here = surveys.survey_answers k f list in
-    let there = surveys.survey_answers k g list in
-    let number : r.number ≡ r'.number = same_number here there (survey_gives s) a a' in
-    surveys_alike (λ j hj. fault_same s j (0 + j) hj) number (surveys.surveys_listed k a) (surveys.surveys_listed k a') (λ d. two_parts (here.refused (r, list₁) a d))
-    (λ d. two_parts (there.refused (r', list₂) a' d))
-
--- and the list too where the IDs are the same
-pub same_survey : {k : ℕ} {f g list list₁ list₂ : List ℕ} {r r' : Survey} → SameButAudio k f g → FrameSurveyed k f list r list₁ → FrameSurveyed k g list r' list₂
+pub same_survey : {k : ℕ} {f g list list₁ list₂ : List ℕ} {r r' : Survey} → Alike k f g → FrameSurveyed k f list r list₁ → FrameSurveyed k g list r' list₂
     → (r ≡ r') × (list₁ ≡ list₂)
-same_survey s a a' = let w = alike_survey (apart_alike s) a a' in (w.0, alike_same w.1 (apart_ids s))
+same_survey {k} {f} {g} {list} {list₁} {list₂} {r} {r'} s a a' =
+    let e : ◌≡◌ {A = Survey × List ℕ} (r, list₁) (r', list₂) =
+    same_outcome (surveys.survey_answers k f list) (surveys.survey_answers k g list) (survey_gives s) a a' (λ z z'.
+    let one = listed_one (listed_same s.faults (surveys.surveys_listed k a z)) (surveys.surveys_listed k a' z') (z ∙ sym z') in
+    λ i. (one.0 i, one.1 i)) in
+    two_parts e
 
--- salvage the same
-pub alike_salvage : {k : ℕ} {f g : List ℕ} {samples samples₁ samples₂ : List ℤ} {list list₁ list₂ : List ℕ} {r r' : Survey} → Alike k f g
-    → ((c : ℕ) → 0 < c → c < 9 → SameWords k f g c) → Salvaged k f samples list r samples₁ list₁ → Salvaged k g samples list r' samples₂ list₂
-    → (r ≡ r') × (samples₁ ≡ samples₂) × SameButIds (sequences k) f g 0 (600 * sequences k) r.kept list₁ list₂
-alike_salvage {k} {f} {g} {samples} {samples₁} {samples₂} {list} {list₁} {list₂} {r} {r'} s words a a' =
-    let here = surveys.salvage_answers k f samples list in
-    let there = surveys.salvage_answers k g samples list in
-    let number : r.number ≡ r'.number = same_number here there (salvage_gives s) a a' in
-    let lists =
-    surveys_alike (λ j hj. fault_same s j (0 + j) hj) number (surveys.salvages_listed k a) (surveys.salvages_listed k a')
-    (λ d. let quiet = three_parts (here.refused (r, samples₁, list₁) a d) in (quiet.0, quiet.2))
-    (λ d. let quiet = three_parts (there.refused (r', samples₂, list₂) a' d) in (quiet.0, quiet.2)) in
-    let heard : samples₁ ≡ samples₂ =
-    by_eq r.number 0
-    (λ z. salvage_out_one (salvage_out_same s words (surveys.salvages_out k a z)) (surveys.salvages_out k a' (sym number ∙ z)))
-    (λ d.
-    (three_parts (here.refused (r, samples₁, list₁) a d)).1
-    ∙ sym (three_parts (there.refused (r', samples₂, list₂) a' (λ z. d (number ∙ z)))).1) in
-    (lists.0, heard, lists.1)
-
-pub same_salvage : {k : ℕ} {f g : List ℕ} {samples samples₁ samples₂ : List ℤ} {list list₁ list₂ : List ℕ} {r r' : Survey} → SameButAudio k f g
-    → ((c : ℕ) → 0 < c → c < 9 → SameWords k f g c) → Salvaged k f samples list r samples₁ list₁ → Salvaged k g samples list r' samples₂ list₂
-    → (r ≡ r') × (samples₁ ≡ samples₂) × (list₁ ≡ list₂)
-same_salvage s words a a' = let w = alike_salvage (apart_alike s) words a a' in (w.0, w.1, alike_same w.2 (apart_ids s))
+pub same_salvage : {k : ℕ} {f g : List ℕ} {samples samples₁ samples₂ : List ℤ} {list list₁ list₂ : List ℕ} {r r' : Survey} → Alike k f g
+    → ((c : ℕ) → 0 < c → c < 9 → SameWords k f g c) → Salvaged k f samples list r samples₁ list₁ → Salvaged k g samples list r' samples₂ list₂ → (r ≡ r') × (samples₁ ≡ samples₂) × (list₁ ≡ list₂)
+same_salvage {k} {f} {g} {samples} {samples₁} {samples₂} {list} {list₁} {list₂} {r} {r'} s words a a' =
+    let e : ◌≡◌ {A = Survey × List ℤ × List ℕ} (r, samples₁, list₁) (r', samples₂, list₂) =
+    same_outcome (surveys.salvage_answers k f samples list) (surveys.salvage_answers k g samples list) (salvage_gives s) a a' (λ z z'.
+    let one = listed_one (listed_same s.faults (surveys.salvages_listed k a z)) (surveys.salvages_listed k a' z') (z ∙ sym z') in
+    let heard = salvage_out_one (salvage_out_same s words (surveys.salvages_out k a z)) (surveys.salvages_out k a' z') in
+    λ i. (one.0 i, heard i, one.1 i)) in
+    (ap (λ (o : Survey × List ℤ × List ℕ). o.0) e, ap (λ (o : Survey × List ℤ × List ℕ). o.1) e, ap (λ (o : Survey × List ℤ × List ℕ). o.2) e)
 
 -- a view of any block: its number, and where its part lies
 pub same_view : {k : ℕ} {f g : List ℕ} {h q : ℕ} {p : Place} {r r' : ℕ} → Alike k f g → ViewNumbered k f h q p r → ViewNumbered k g h q p r' → r ≡ r'

@@ -23,8 +23,8 @@ use Rattle.promises.specs.Refusals.{FirstFault, SomeOutside, count_stored, mode_
 use Rattle.promises.specs.Unrecorded.{SameButAudio}
 use Rattle.promises.specs.Commentary.{HeardAgain, SalvagedAgain, SoundBytes, FrameHolds, Changed}
 use Rattle.promises.proofs.Tables.{row_past, row_on, none_outside, some_outside}
-use Rattle.promises.proofs.Apart.{Alike, apart_alike, refused_gives, then_gives, SameAs, SameWords, audio_gives, count_same, mode_same, some_sequence, fault_same, apart_ids, all_named}
-use Rattle.promises.proofs.FoundIds.{listed_alike, alike_same}
+use Rattle.promises.proofs.Apart.{Alike, apart_alike, refused_gives, then_gives, SameAs, SameWords, audio_gives, count_same, mode_same, some_sequence, fault_same, listed_same, all_named}
+use Rattle.promises.proofs.One.{listed_one}
 use Rattle.promises.proofs.Commentary.{exchanged_apart, exchanged_as, word_new, word_else}
 use Rattle.promises.proofs.LaidAgain.{form_mode, form_count, laid_again}
 use Rattle.promises.proofs.Holding.{laid_bytes, taken_inside, held_laid, held_taken, changed_taken}
@@ -144,12 +144,12 @@ module _ {k : ℕ} {f : List ℕ} {c : ℕ} {samples : List ℤ} {g : List ℕ} 
       λ size e. row_on (λ above. omega (arith, above, known_below k y known)) (row_on (λ d. d e) (row_on (λ d. d room) refl)) in
       let z : r.number ≡ 0 = sym ((surveys.salvage_answers k f buffer list).no_other (r, before, list₁) a 0 (zero (length f) whole)) in
       let z' : r'.number ≡ 0 = sym ((surveys.salvage_answers k g buffer list).no_other (r', after, list₂) a' 0 (zero (length g) (x.size ∙ whole))) in
-      let one = listed_alike (λ j hj. fault_same like j (0 + j) hj) (surveys.salvages_listed k a z) (surveys.salvages_listed k a' z') (z ∙ sym z') in
+      let one = listed_one (listed_same like.faults (surveys.salvages_listed k a z)) (surveys.salvages_listed k a' z') (z ∙ sym z') in
       let out = surveys.salvages_out k a z in
       let out' = surveys.salvages_out k a' z' in
       let stored : (d u : ℕ) → 0 < d → d < 9 → fault_for (sequences k) f d u ≡ 0 = λ d u d1 d8. sym (same_fault d u d1 d8) ∙ fault_none d u d1 d8 in (
         one.0,
-        alike_same one.1 (apart_ids apart),
+        one.1,
         record {
           sample = λ u h.
               (out'.position c u c1 c8 (omega (arith, h, many, few))).renamed (fault_none c u c1 c8)

@@ -1,10 +1,10 @@
 -- The promises are kept, of any answer that the contracts of the public calls allow. Each theorem cites its workshop; what it says is in crate `promises`
--- (`Demand1`, `Demand2`, `Demand3`, `Unrecorded`, `Commentary`, `SpareBits`, `FoundIds`; `Refusals`, `Form`), in the words of crate `paper`. Assumes nothing.
+-- (`Demand1`, `Demand2`, `Demand3`, `Unrecorded`, `Commentary`, `SpareBits`; `Refusals`, `Form`), in the words of crate `paper`. Assumes nothing.
 use mathlib.Core.Path.{◌≡◌, refl, sym, ◌∙◌}
 use mathlib.Core.Bool.{Bool, true, false}
 use mathlib.Core.List.{List, [], ◌∷◌, ◌++◌}
 use mathlib.Core.Logic.{◌≢◌}
-use Prim.Native.Nat.{ℕ, ◌+◌, ◌*◌, ◌/◌, ◌%◌, ◌≤◌, ◌<◌}
+use Prim.Native.Nat.{ℕ, ◌+◌, ◌*◌, ◌/◌, ◌<◌}
 use lib.Dec.{T}
 use lib.IntN.{ℤ, pos}
 use lib.ListN.{length, get_or, set}
@@ -33,7 +33,7 @@ use Rattle.rules_replaces.specs.Replace.{Replaced}
 use Rattle.rules_writes.specs.Write.{Wrote}
 use Rattle.rules_picture.specs.Rows.{rows_agree, printed_rows}
 use Rattle.rules_format.specs.Known.{all, table}
-use Rattle.paper.specs.Paper.{sequences, positions, macroblocks, bytes_at, section_at, number_at, fault, stream_fault, records, sound_channel, sound_first, sound_word, mode_said, back}
+use Rattle.paper.specs.Paper.{sequences, positions, macroblocks, bytes_at, section_at, number_at, stream_fault, sound_channel, sound_first, sound_word, mode_said, back}
 use Rattle.paper.specs.Bytes.{OwnCount}
 use Rattle.rules_format.specs.InNumbers.{InNumbers}
 use Rattle.kept.specs.EveryCall.{EveryCall}
@@ -45,22 +45,20 @@ use Rattle.promises.specs.Form.{HasForm}
 use Rattle.promises.specs.Refusals.{SomeOutside, mode_stored, list_table}
 use Rattle.promises.specs.Commentary.{Exchanged, HeardAgain, SalvagedAgain, SoundBytes, FrameHolds, Changed}
 use Rattle.promises.specs.SpareBits.{WithSection, Answerable, told, SameButSpare}
-use Rattle.promises.specs.FoundIds.{AreBytes, Shows, SameButIds}
 use Rattle.promises.proofs.Unrecorded.{marks_aaux}
 use Rattle.kept.proofs.Deciding.{ids_decided, views_decided, macroblocks_decided, reads_decided}
 use Rattle.kept.proofs.WritingBack.{writes_back, strict_decided, frame_decided}
 use Rattle.rules_surveys.proofs.Listing.{same_listed}
 use Rattle.kept.proofs.Salvaging.{salvages, salvage_decided}
 use Rattle.kept.proofs.Worthless.{tone_taken, one_for_two, frame_for_two, all_lost}
-use Rattle.kept.proofs.Alike.{same_audio, alike_salvage, same_salvage, same_check, alike_survey, same_survey, same_view, same_view_at, same_macroblock, same_macroblock_at, same_time}
+use Rattle.kept.proofs.Alike.{same_audio, same_salvage, same_check, same_survey, same_view, same_view_at, same_macroblock, same_macroblock_at, same_time}
 use Rattle.kept.proofs.Unrecorded.{comes_back_lost, others_same, handed_out, some_marked}
 use Rattle.kept.proofs.Held.{held_one}
 use Rattle.promises.proofs.Apart.{apart_alike, aaux_words}
 use Rattle.promises.proofs.SpareBits.{spare_alike, spare_as, spare_words}
-use Rattle.kept.proofs.Commentary.{heard_again, audio_alone, alike_after, others_again, salvaged_again, made_again, form_made, form_ours}
+use Rattle.kept.proofs.Commentary.{heard_again, alike_after, others_again, salvaged_again, made_again, form_made, form_ours}
 use Rattle.kept.proofs.Commentary.{taken_when, refused_when, refused_then, ours_taken, ours_form, silenced, left_alone}
-use Rattle.kept.proofs.FoundIds.{survey_shows, sequence_shows, salvage_shows}
-use Rattle.kept.proofs.SpareBits.{said_told, read_told, said_only, values_said, one_answer, known_answer, ones_written, same_viewed, alike_sequence, same_replaced}
+use Rattle.kept.proofs.SpareBits.{said_told, read_told, said_only, values_said, one_answer, known_answer, ones_written, same_viewed, same_sequence, same_replaced}
 use Rattle.rules_format.specs.Ids.{id_values}
 use Rattle.rules_format.proofs.Headlines as format
 use Rattle.rules_picture.proofs.Headlines as picture
@@ -192,15 +190,6 @@ pub demand_3_sequences : (k h q : ℕ) {sequence list list' : List ℕ} {r : Sur
     → Listed (sequences k) sequence ((sequences k * h + q) * 150) 150 list r list'
 demand_3_sequences = surveys.sequences_listed
 
--- "from the first in stream order on, as many as it has room for": record i of a list is record i of all, and room for a record is not left unused
-pub demand_3_first : {n first m : ℕ} {bytes list list' : List ℕ} {r : Survey} → Listed n bytes first m list r list' → (i a : ℕ) → i < r.kept → a < 5
-    → get_or list' (5 * i + a) 0 ≡ get_or (records n bytes first m) (5 * i + a) 0
-demand_3_first = promised.listed_first
-
-pub demand_3_room : {n first m : ℕ} {bytes list list' : List ℕ} {r : Survey} → Listed n bytes first m list r list'
-    → (5 * r.kept ≤ length list) × (r.kept < r.total → length list < 5 * r.kept + 5)
-demand_3_room = promised.listed_room
-
 -- "Salvage and survey give the same list, total and kept for the same frame."
 pub demand_3_same : (k : ℕ) {frame : List ℕ} {samples samples' : List ℤ} {list list₁ list₂ : List ℕ} {r r' : Survey}
     → Salvaged k frame samples list r samples' list₁ → FrameSurveyed k frame list r' list₂ → r.number ≡ 0 → r'.number ≡ 0 → (r ≡ r') × (list₁ ≡ list₂)
@@ -237,7 +226,7 @@ module _ {k : ℕ} {f : List ℕ} {c : ℕ} {which : ℕ → Bool} {g : List ℕ
 -- "salvage is unaffected", whatever stands in AAUX
 pub unrecorded_salvage : {k : ℕ} {f g : List ℕ} → SameButAaux k f g → {samples samples₁ samples₂ : List ℤ} {list list₁ list₂ : List ℕ} {r r' : Survey}
     → Salvaged k f samples list r samples₁ list₁ → Salvaged k g samples list r' samples₂ list₂ → (r ≡ r') × (samples₁ ≡ samples₂) × (list₁ ≡ list₂)
-unrecorded_salvage same = same_salvage same.blocks (aaux_words same)
+unrecorded_salvage same = same_salvage (apart_alike same.blocks) (aaux_words same)
 
 -- and frame check, survey, macroblock and time code reads, and the number and place of a block view, do not look behind the ID of an audio block
 module _ {k : ℕ} {f g : List ℕ} (same : SameButAudio k f g) where
@@ -246,7 +235,7 @@ module _ {k : ℕ} {f g : List ℕ} (same : SameButAudio k f g) where
 
   pub audio_apart_survey : {list list₁ list₂ : List ℕ} {r r' : Survey} → FrameSurveyed k f list r list₁ → FrameSurveyed k g list r' list₂
       → (r ≡ r') × (list₁ ≡ list₂)
-  audio_apart_survey = same_survey same
+  audio_apart_survey = same_survey (apart_alike same)
 
   pub audio_apart_view : {h q : ℕ} {p : Place} {r r' : ℕ} → ViewNumbered k f h q p r → ViewNumbered k g h q p r' → r ≡ r'
   audio_apart_view = same_view (apart_alike same)
@@ -303,7 +292,7 @@ module _ {k : ℕ} {f : List ℕ} {c : ℕ} {samples : List ℤ} {g : List ℕ} 
 
   pub commentary_survey : {list list₁ list₂ : List ℕ} {r r' : Survey} → FrameSurveyed k f list r list₁ → FrameSurveyed k g list r' list₂
       → (r ≡ r') × (list₁ ≡ list₂)
-  commentary_survey = same_survey (audio_alone call)
+  commentary_survey = same_survey (alike_after call)
 
   pub commentary_salvage : {buffer before after : List ℤ} {list list₁ list₂ : List ℕ} {r r' : Survey} → length buffer ≡ 8 * positions k
       → Salvaged k f buffer list r before list₁ → Salvaged k g buffer list r' after list₂ → (r ≡ r') × (list₁ ≡ list₂) × SalvagedAgain k c samples before after
@@ -415,15 +404,12 @@ module _ (k : ℕ) {f g : List ℕ} (same : SameButSpare (600 * sequences k) f g
   pub spare_view_at : {h q : ℕ} {p : Place} {r r' : Part} → ViewLies k f h q p r → ViewLies k g h q p r' → r ≡ r'
   spare_view_at = same_view_at (spare_alike same)
 
-  -- a record has its block's ID, with its own spare bits
-  pub spare_survey : {list list₁ list₂ : List ℕ} {r r' : Survey} → FrameSurveyed k f list r list₁ → FrameSurveyed k g list r' list₂
-      → (r ≡ r') × SameButIds (sequences k) f g 0 (600 * sequences k) r.kept list₁ list₂
-  spare_survey = alike_survey (spare_alike same)
+  pub spare_survey : {list list₁ list₂ : List ℕ} {r r' : Survey} → FrameSurveyed k f list r list₁ → FrameSurveyed k g list r' list₂ → (r ≡ r') × (list₁ ≡ list₂)
+  spare_survey = same_survey (spare_alike same)
 
   pub spare_salvage : {samples samples₁ samples₂ : List ℤ} {list list₁ list₂ : List ℕ} {r r' : Survey} → Salvaged k f samples list r samples₁ list₁
-      → Salvaged k g samples list r' samples₂ list₂
-      → (r ≡ r') × (samples₁ ≡ samples₂) × SameButIds (sequences k) f g 0 (600 * sequences k) r.kept list₁ list₂
-  spare_salvage = alike_salvage (spare_alike same) (spare_words same)
+      → Salvaged k g samples list r' samples₂ list₂ → (r ≡ r') × (samples₁ ≡ samples₂) × (list₁ ≡ list₂)
+  spare_salvage = same_salvage (spare_alike same) (spare_words same)
 
   pub spare_audio : {c : ℕ} {samples heard heard' : List ℤ} {o o' : AudioAnswer} → AudioRead k f c samples o heard → AudioRead k g c samples o' heard'
       → (o ≡ o') × (heard ≡ heard')
@@ -445,8 +431,8 @@ module _ (k : ℕ) {f g : List ℕ} (same : SameButSpare (600 * sequences k) f g
   spare_replace = same_replaced same
 
 pub spare_sequence : (k h q : ℕ) {f g list list₁ list₂ : List ℕ} {r r' : Survey} → SameButSpare 150 f g → SequenceSurveyed k h q f list r list₁
-    → SequenceSurveyed k h q g list r' list₂ → (r ≡ r') × SameButIds (sequences k) f g ((sequences k * h + q) * 150) 150 r.kept list₁ list₂
-spare_sequence = alike_sequence
+    → SequenceSurveyed k h q g list r' list₂ → (r ≡ r') × (list₁ ≡ list₂)
+spare_sequence = same_sequence
 
 -- the three bytes may be any with a section; and the spare bits of a block anything, of one block after the other
 pub any_section : (a b c : ℕ) → a < 160 → b < 256 → c < 256 → WithSection (a ∷ b ∷ c ∷ [])
@@ -458,40 +444,6 @@ any_spare = promised.any_spare
 
 pub any_spares : {m : ℕ} {f g x : List ℕ} → SameButSpare m f g → SameButSpare m g x → SameButSpare m f x
 any_spares = promised.any_spares
-
--- ---- the ID found: record i of a list, of those that are kept
-
-module _ (k : ℕ) {bytes : List ℕ} (are : AreBytes bytes) where
-  -- "Each record gains a fifth number, the three ID bytes": a block, its bytes told back, and the fault that they are in that place
-  pub found_survey : {list list' : List ℕ} {r : Survey} → FrameSurveyed k bytes list r list' → r.number ≡ 0 → (i : ℕ) → i < r.kept
-      → Shows (sequences k) bytes 0 (600 * sequences k) list' i
-  found_survey = survey_shows k are
-
-  pub found_sequence : (h q : ℕ) {list list' : List ℕ} {r : Survey} → SequenceSurveyed k h q bytes list r list' → r.number ≡ 0 → (i : ℕ) → i < r.kept
-      → Shows (sequences k) bytes ((sequences k * h + q) * 150) 150 list' i
-  found_sequence = sequence_shows k are
-
-  pub found_salvage : {samples samples' : List ℤ} {list list' : List ℕ} {r : Survey} → Salvaged k bytes samples list r samples' list' → r.number ≡ 0 → (i : ℕ)
-      → i < r.kept → Shows (sequences k) bytes 0 (600 * sequences k) list' i
-  found_salvage = salvage_shows k are
-
--- in print: a video block's ID where A1 stands, place 22 of sequence 3 of DIF channel 1, and zeros behind it; ones in a frame's last place
-pub found_known : records 10 (0x95 ∷ 0x1A ∷ 0x86 ∷ []) 1972 2 ≡ 1 ∷ 3 ∷ 22 ∷ 12 ∷ 0x951A86 ∷ 1 ∷ 3 ∷ 23 ∷ 12 ∷ 0 ∷ []
-found_known = promised.printed_record
-
-pub found_reserved : records 12 (0xFF ∷ 0xFF ∷ 0xFF ∷ []) 7199 1 ≡ 3 ∷ 11 ∷ 149 ∷ 11 ∷ 0xFFFFFF ∷ []
-found_reserved = promised.printed_reserved
-
--- any numbers below 256 are bytes
-pub any_bytes : (bytes : List ℕ) → ((i : ℕ) → i < length bytes → get_or bytes i 0 < 256) → AreBytes bytes
-any_bytes = promised.any_bytes
-
--- no record shows the ID of its place
-pub not_the_place : {n first m : ℕ} {bytes list : List ℕ} {i : ℕ} → Shows n bytes first m list i
-    → fault (get_or list (5 * i + 4) 0 / 65536) (get_or list (5 * i + 4) 0 / 256 % 256) (get_or list (5 * i + 4) 0 % 256) (get_or list (5 * i + 0) 0)
-    (get_or list (5 * i + 1) 0) (get_or list (5 * i + 2) 0)
-    ≢ 0
-not_the_place = promised.not_the_place
 
 -- ---- the premises can be met, for each system and count; and what the demands refute
 

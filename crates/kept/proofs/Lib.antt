@@ -10,5 +10,4 @@ pub mod Unrecorded
 pub mod Held
 pub mod Commentary
 pub mod SpareBits
-pub mod FoundIds
 pub mod Demands

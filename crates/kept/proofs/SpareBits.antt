@@ -18,9 +18,8 @@ use Rattle.promises.specs.Demand2.{IdOut}
 use Rattle.promises.specs.Refusals.{view_table}
 use Rattle.promises.specs.SpareBits.{WithSection, Answerable, told, SameButSpare}
 use Rattle.promises.proofs.Tables.{row_past}
-use Rattle.promises.specs.FoundIds.{SameButIds}
-use Rattle.promises.proofs.Apart.{replace_gives, sequences_two}
-use Rattle.promises.proofs.FoundIds.{surveys_alike}
+use Rattle.promises.proofs.Apart.{replace_gives, listed_same, sequences_two}
+use Rattle.promises.proofs.One.{listed_one}
 use Rattle.promises.proofs.SpareBits.{spare_refl, spare_alike, spare_as, spare_faults, spare_block, spare_exchanged}
 use Rattle.promises.proofs.Headlines as promised
 use Rattle.rules_format.specs.Ids.{id_values}
@@ -39,7 +38,7 @@ use Rattle.rules_replaces.proofs.Replacing.{by_replaced, replaces}
 use Rattle.rules_replaces.proofs.Headlines as replacing
 use Rattle.rules_writes.specs.Write.{Wrote}
 use Rattle.rules_writes.proofs.Headlines as writes
-use Rattle.kept.proofs.Alike.{same_number, first_rows, two_parts, same_view}
+use Rattle.kept.proofs.Alike.{same_outcome, first_rows, two_parts, same_view}
 use Rattle.kept.proofs.Commentary.{few_stored}
 use Rattle.kept.proofs.WritingBack.{writes_back}
 
@@ -114,16 +113,16 @@ module _ {k : ℕ} {f g : List ℕ} (s : SameButSpare (600 * sequences k) f g) {
   pub same_viewed : (r ≡ r') × SameButSpare 1 part part'
   same_viewed = (number_same, by_eq r 0 block_same none_same)
 
--- ---- survey_sequence: its answer, and its list but for the IDs
+-- ---- survey_sequence
 
-pub alike_sequence : (k h q : ℕ) {f g list list₁ list₂ : List ℕ} {r r' : Survey} → SameButSpare 150 f g → SequenceSurveyed k h q f list r list₁
-    → SequenceSurveyed k h q g list r' list₂ → (r ≡ r') × SameButIds (sequences k) f g ((sequences k * h + q) * 150) 150 r.kept list₁ list₂
-alike_sequence k h q {f} {g} {list} {list₁} {list₂} {r} {r'} s a a' =
-    let here = surveys.sequence_answers k h q f list in
-    let there = surveys.sequence_answers k h q g list in
-    let number : r.number ≡ r'.number = same_number here there (record { too = λ e. rw s.size e }) a a' in
-    surveys_alike (λ j hj. spare_faults s j _ _ _ hj) number (surveys.sequences_listed k h q a) (surveys.sequences_listed k h q a')
-    (λ d. two_parts (here.refused (r, list₁) a d)) (λ d. two_parts (there.refused (r', list₂) a' d))
+pub same_sequence : (k h q : ℕ) {f g list list₁ list₂ : List ℕ} {r r' : Survey} → SameButSpare 150 f g → SequenceSurveyed k h q f list r list₁
+    → SequenceSurveyed k h q g list r' list₂ → (r ≡ r') × (list₁ ≡ list₂)
+same_sequence k h q {f} {g} {list} {list₁} {list₂} {r} {r'} s a a' =
+    let e : ◌≡◌ {A = Survey × List ℕ} (r, list₁) (r', list₂) =
+    same_outcome (surveys.sequence_answers k h q f list) (surveys.sequence_answers k h q g list) (record { too = λ e. rw s.size e }) a a' (λ z z'.
+    let one = listed_one (listed_same (spare_faults s) (surveys.sequences_listed k h q a z)) (surveys.sequences_listed k h q a' z') (z ∙ sym z') in
+    λ i. (one.0 i, one.1 i)) in
+    two_parts e
 
 -- ---- replace_audio: the number, and a frame that differs in spare bits alone
 

@@ -1,4 +1,4 @@
--- The ways out of the ID reader, and the ID as found. Assumes nothing.
+-- The ways out of the ID reader. Assumes nothing.
 use mathlib.Core.Path.{◌≡◌, refl, sym, ap, ◌∙◌}
 use mathlib.Core.List.{List}
 use Prim.Native.Nat.{ℕ, ◌+◌, ◌*◌, ◌/◌, ◌%◌, ◌≤◌, ◌<◌}
@@ -10,9 +10,9 @@ use Rattle.paper.specs.declared.Section.{Section}
 use Rattle.paper.specs.declared.IdAnswer.{IdAnswer}
 use Rattle.paper.specs.declared.IdAnswer.TheVariants.{Named, Reserved, WrongLength}
 use Rattle.rules_format.specs.Places.{section_of}
-use Rattle.rules_format.specs.Ids.{channel_of, named_by, spare_in, id_answer, block_answer, id_found}
+use Rattle.rules_format.specs.Ids.{channel_of, named_by, spare_in, id_answer, block_answer}
 use Rattle.rules_surveys.specs.ReadId.{IdRead}
-use Rattle.rules_format.proofs.Ids.{found_is, read_id_0, read_id_4, read_id_11}
+use Rattle.rules_format.proofs.Ids.{read_id_0, read_id_4, read_id_11}
 use Rattle.rules_surveys.proofs.Calls.{id_read}
 
 pub wrong_length : (id : List ℕ) → (length id ≡ 3 → ⊥) → IdRead id WrongLength
@@ -33,8 +33,3 @@ module _ (id : List ℕ) (b0 : ℕ) (e : length id ≡ 3) (byte0 : Byte (get_or 
 -- a block of fewer than three bytes is all of its ID
 pub short_block : (block : List ℕ) (r : IdAnswer) → length block < 3 → IdRead block r → r ≡ block_answer block
 short_block block r l a = a.answer ∙ ap id_answer (sym (take_all 3 block (omega arith)))
-
--- x0, x1, x2 are a block's first bytes, b0, b1, b2 the same as numbers
-pub found : (block : List ℕ) (x0 x1 x2 b0 b1 b2 : ℕ) → x0 ≡ get_or block 0 0 → x1 ≡ get_or block 1 0 → x2 ≡ get_or block 2 0 → Byte x0 b0 → Byte x1 b1 → Byte x2 b2
-    → b0 * 65536 + b1 * 256 + b2 ≡ id_found block
-found block x0 x1 x2 b0 b1 b2 e0 e1 e2 byte0 byte1 byte2 = rw (byte0.is, byte1.is, byte2.is, e0, e1, e2) (sym (found_is block))

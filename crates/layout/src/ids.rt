@@ -1,6 +1,6 @@
 // Block IDs, read and written.
 ghost use Rattle.std.specs.Prelude.{◌≡◌};
-ghost use Rattle.rules_format.specs.Ids.{channel_of, block_answer, id_found, id_bytes};
+ghost use Rattle.rules_format.specs.Ids.{channel_of, block_answer, id_bytes};
 ghost use Rattle.rules_surveys.specs.ReadId.{IdRead};
 
 use crate::places;
@@ -52,16 +52,6 @@ pub fn read_block(block: &[u8]) -> IdAnswer
         return read_id(block);
     }
     read_id(&block[..3])
-}
-
-// The ID of a block as found, whatever it names: its three bytes as one number, the first highest.
-pub fn id_found(block: &[u8]) -> u32
-    ensures { result ≡ id_found block.now }
-{
-    let byte0 = base::wide(base::byte_at(block, 0));
-    let byte1 = base::wide(base::byte_at(block, 1));
-    let byte2 = base::wide(base::byte_at(block, 2));
-    byte0 * 65536 + byte1 * 256 + byte2
 }
 
 // The three bytes of an ID, its other bits 1.

@@ -4,7 +4,7 @@ mod parts;
 mod places;
 mod systems;
 
-pub use ids::{id_bytes, id_found, read_block, read_id};
+pub use ids::{id_bytes, read_block, read_id};
 pub use parts::no_part;
 pub use places::{entry_at, entry_of, place_in, place_of, printed_places, section_code};
 pub use systems::{

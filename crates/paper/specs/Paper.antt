@@ -108,17 +108,12 @@ fault b0 b1 b2 h q p = first_of (
 abbrev pub stream_fault : ℕ → List ℕ → ℕ → ℕ → ℕ
 stream_fault n bytes j i = fault (get_or bytes (j * 80) 0) (get_or bytes (j * 80 + 1) 0) (get_or bytes (j * 80 + 2) 0) (i / 150 / n) (i / 150 % n) (i % 150)
 
--- "the three ID bytes as byte 0 times 65,536 plus byte 1 times 256 plus byte 2"
-abbrev pub stream_id : List ℕ → ℕ → ℕ
-stream_id bytes j = get_or bytes (j * 80) 0 * 65536 + get_or bytes (j * 80 + 1) 0 * 256 + get_or bytes (j * 80 + 2) 0
-
--- "Survey records are [five] unsigned 32-bit numbers: channel, sequence, place, fault", and the ID found
-abbrev pub stream_record : ℕ → List ℕ → ℕ → ℕ → List ℕ
-stream_record n bytes j i = i / 150 / n ∷ i / 150 % n ∷ i % 150 ∷ stream_fault n bytes j i ∷ stream_id bytes j ∷ []
-
--- those of m blocks, the first of which is block `first` of the stream
+-- "Survey records are four unsigned 32-bit numbers: channel, sequence, place, fault.": those of m blocks, the first of which is block `first` of the stream
 unfoldable pub records : ℕ → List ℕ → ℕ → ℕ → List ℕ
-records n bytes first m = run (λ (j : ℕ). pick (eqb (stream_fault n bytes j (first + j)) 0) [] (stream_record n bytes j (first + j))) m
+records n bytes first m =
+    run (λ (j : ℕ).
+    let i = first + j in
+    pick (eqb (stream_fault n bytes j i) 0) [] (i / 150 / n ∷ i / 150 % n ∷ i % 150 ∷ stream_fault n bytes j i ∷ [])) m
 
 -- ---- sound, with s = n/2
 

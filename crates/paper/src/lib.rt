@@ -93,14 +93,13 @@ pub struct IdValues {
     pub reserved: u32,
 }
 
-// A survey record: where a block stands that does not name its place, its fault, and its ID as found, three bytes as one number.
+// A survey record: where a block stands that does not name its place, and its fault.
 #[derive(Drop)]
 pub struct Fault {
     pub channel: u32,
     pub sequence: u32,
     pub place: Place,
     pub fault: u32,
-    pub id: u32,
 }
 
 // What a survey answers, and salvage.

@@ -15,10 +15,11 @@ use Rattle.base.specs.Below.{below}
 use Rattle.base.proofs.Below.{below_means}
 use Rattle.base.proofs.Cases.{by_lt, by_eq}
 use Rattle.base.proofs.Picks.{pick_either}
-use Rattle.base.proofs.Runs.{tab_part, tab_same}
+use Rattle.base.proofs.Runs.{run_same, tab_part, tab_same}
 use Rattle.paper.specs.declared.System.{System}
 use Rattle.paper.specs.declared.SystemNumber.TheVariants.{Known}
-use Rattle.paper.specs.Paper.{sequences, positions, start, byte_at, bytes_at, section_at, figure3, fault, stream_fault, stream_id, sound_channel, sound_first, sound_index}
+use Rattle.paper.specs.declared.Survey.{Survey}
+use Rattle.paper.specs.Paper.{sequences, positions, start, byte_at, bytes_at, section_at, figure3, fault, stream_fault, records, sound_channel, sound_first, sound_index}
 use Rattle.paper.specs.Paper.{sound_word, sample_by, count_by, count_said, mode_said, vs_pack, vaux_place, vaux_byte, ssyb_place, ssyb_byte}
 use Rattle.paper.specs.Paper.{slot_place}
 use Rattle.paper.specs.Bytes.{compared}
@@ -27,7 +28,7 @@ use Rattle.promises.specs.Refusals.{ssyb_at, WrongFirst, Differs, DifferInHalf, 
 use Rattle.promises.specs.Refusals.{OwnFault, survey_table, salvage_table, view_table, check_table, macroblock_table, time_table, list_table, replace_table, count_stored, mode_stored}
 use Rattle.promises.specs.Refusals.WrongFirst.{wrong_time_header, wrong_digit, wrong_group_header}
 use Rattle.promises.specs.Refusals.Differs.{other_time, other_group}
-use Rattle.promises.specs.Demand3.{fault_for, SalvageOut}
+use Rattle.promises.specs.Demand3.{fault_for, SalvageOut, Listed}
 use Rattle.promises.specs.Unrecorded.{SameButAudio, SameButAaux}
 use Rattle.promises.proofs.Tables.{row_past, row_skip}
 use Rattle.rules_format.specs.Systems.{system_of}
@@ -99,18 +100,14 @@ alike_sym s = record {
   behind = λ j b hj low hb d. sym (s.behind j b hj low hb d);
 }
 
--- two frames that differ behind the IDs of audio blocks alone have the same IDs
-apart_first : {k : ℕ} {f g : List ℕ} → SameButAudio k f g → (j : ℕ) → j < 600 * sequences k → get_or g (j * 80) 0 ≡ get_or f (j * 80) 0
-apart_first s j hj = let zero : j * 80 + 0 ≡ j * 80 = omega arith in rw zero at (s.ids j 0 hj (omega arith))
-
-pub apart_ids : {k : ℕ} {f g : List ℕ} → SameButAudio k f g → (j : ℕ) → j < 600 * sequences k → stream_id g j ≡ stream_id f j
-apart_ids s j hj = rw (apart_first s j hj, s.ids j 1 hj (omega arith), s.ids j 2 hj (omega arith)) refl
-
--- and are alike
+-- so are two frames that differ behind the IDs of audio blocks alone
 pub apart_alike : {k : ℕ} {f g : List ℕ} → SameButAudio k f g → Alike k f g
 apart_alike {k} {f} {g} s = record {
   size = s.size;
-  faults = λ j h q p hj. rw (apart_first s j hj, s.ids j 1 hj (omega arith), s.ids j 2 hj (omega arith)) refl;
+  faults = λ j h q p hj.
+      let zero : j * 80 + 0 ≡ j * 80 = omega arith in
+      let b0 : get_or g (j * 80) 0 ≡ get_or f (j * 80) 0 = rw zero at (s.ids j 0 hj (omega arith)) in
+      rw (b0, s.ids j 1 hj (omega arith), s.ids j 2 hj (omega arith)) refl;
   behind = λ j b hj low hb d. s.others j b hj hb d;
 }
 
@@ -196,6 +193,17 @@ checked_gives s rest =
     let back = alike_sym s in
     else_gives (record { to = first_to s; from = first_to back })
     (else_gives (same_if 21 (dsf_to s) (dsf_to back)) (else_gives (same_if 22 (vs_to s) (vs_to back)) rest))
+
+-- ---- Listed: the fault list, of a frame and of a sequence
+
+pub listed_same : {n first m : ℕ} {f g list list' : List ℕ} {r : Survey} → ((j h q p : ℕ) → j < m → fault_there g j h q p ≡ fault_there f j h q p)
+    → Listed n f first m list r list' → Listed n g first m list r list'
+unfolding records
+listed_same {n} {first} {m} {f} {g} faults a =
+    let there : ℕ → ℕ = λ j. first + j in
+    let e : records n g first m ≡ records n f first m =
+    run_same _ _ m (λ j l. rw (faults j (there j / 150 / n) (there j / 150 % n) (there j % 150) l) refl) in
+    record { listed = rw e a.listed; kept = a.kept; total = rw e a.total }
 
 -- ---- SalvageOut: the samples, where the words are the same too
 

@@ -2,14 +2,13 @@
 use mathlib.Core.Path.{◌≡◌}
 use mathlib.Core.List.{List, [], ◌∷◌}
 use mathlib.Core.Bool.{Bool, true}
-use mathlib.Core.Logic.{◌≢◌}
 use Prim.Native.Nat.{ℕ, ◌+◌, ◌-◌, ◌*◌, ◌/◌, ◌%◌, ◌≤◌, ◌<◌}
 use lib.Dec.{ltb}
 use lib.IntN.{pos, ℤ}
 use lib.ListN.{length, get_or, take, drop, set}
 use Rattle.base.specs.Pick.{pick}
 use Rattle.base.specs.Calls.{ExactlyOne}
-use Rattle.paper.specs.Paper.{sequences, section_at, sound_channel, sound_first, sound_index, mode_said, back, macroblocks, fault, stream_fault, records}
+use Rattle.paper.specs.Paper.{sequences, section_at, sound_channel, sound_first, sound_index, mode_said, back, macroblocks, stream_fault}
 use Rattle.promises.specs.Contents.{Contents}
 use Rattle.promises.specs.Demand2.{Strict, ReadsBack, IdOut, ViewOut, MacroblockOut, ReadOut, GoesThrough, AudioOut, LaidOut}
 use Rattle.paper.specs.declared.Survey.{Survey}
@@ -19,9 +18,6 @@ use Rattle.promises.specs.Unrecorded.{Marks, SameButAudio, SameButAaux}
 use Rattle.promises.specs.Commentary.{Exchanged, SalvagedAgain, Changed}
 use Rattle.promises.specs.SpareBits.{WithSection, Answerable, told, SameButSpare}
 use Rattle.promises.proofs.SpareBits.{section_free, named_values, named_told, told_named, told_section, told_values, spare_free, spare_on}
-use Rattle.promises.specs.FoundIds.{AreBytes, Shows, SameButIds}
-use Rattle.promises.proofs.FoundIds.{bytes_are, kept_said, room_used, records_print, reserved_print, listed_shows, shows_one, shows_inside, shows_fault}
-use Rattle.promises.proofs.FoundIds.{alike_one, alike_back, alike_inside}
 use Rattle.promises.proofs.Apart.{audio_free, aaux_free}
 use Rattle.promises.proofs.Commentary.{exchanged_one, salvaged_again_one}
 use Rattle.promises.proofs.Holding.{changed_exactly}
@@ -168,57 +164,3 @@ pub one_untouched : {n : ℕ} {l : Contents} {f g : List ℕ} {c t : ℕ} {x : �
     → take 80 (drop (sound_index n c t * 80) g) ≡ take 80 (drop (sound_index n c t * 80) f)
     → x ≡ pick (ltb t l.count) (back (get_or l.sound ((c - 1) * l.count + t) (pos 0))) (pos 0)
 one_untouched = untouched_one
-
--- ---- the ID found
-
--- record i of the list is record i of all; room is the list's length div 5, and all of it is used
-pub listed_first : {n first m : ℕ} {bytes list list' : List ℕ} {r : Survey} → Listed n bytes first m list r list' → (i a : ℕ) → i < r.kept → a < 5
-    → get_or list' (5 * i + a) 0 ≡ get_or (records n bytes first m) (5 * i + a) 0
-listed_first = kept_said
-
-pub listed_room : {n first m : ℕ} {bytes list list' : List ℕ} {r : Survey} → Listed n bytes first m list r list'
-    → (5 * r.kept ≤ length list) × (r.kept < r.total → length list < 5 * r.kept + 5)
-listed_room = room_used
-
--- records in print: a video block's ID where A1 stands, and zeros behind it; a reserved section, and every spare bit 1
-pub printed_record : records 10 (0x95 ∷ 0x1A ∷ 0x86 ∷ []) 1972 2 ≡ 1 ∷ 3 ∷ 22 ∷ 12 ∷ 0x951A86 ∷ 1 ∷ 3 ∷ 23 ∷ 12 ∷ 0 ∷ []
-printed_record = records_print
-
-pub printed_reserved : records 12 (0xFF ∷ 0xFF ∷ 0xFF ∷ []) 7199 1 ≡ 3 ∷ 11 ∷ 149 ∷ 11 ∷ 0xFFFFFF ∷ []
-printed_reserved = reserved_print
-
--- each record that is kept shows a block, of those that are surveyed, and what it shows decides its numbers; any numbers below 256 are bytes
-pub any_shown : {n first m : ℕ} {bytes list list' : List ℕ} {r : Survey} → 0 < n → AreBytes bytes → Listed n bytes first m list r list' → (i : ℕ) → i < r.kept
-    → Shows n bytes first m list' i
-any_shown = listed_shows
-
-pub one_shown : {n first m : ℕ} {bytes list list' : List ℕ} {i : ℕ} (a : Shows n bytes first m list i) (b : Shows n bytes first m list' i) → a.j ≡ b.j
-    → (e : ℕ) → e < 5 → get_or list (5 * i + e) 0 ≡ get_or list' (5 * i + e) 0
-one_shown = shows_one
-
-pub shown_inside : {n first m : ℕ} {bytes list : List ℕ} {i : ℕ} → Shows n bytes first m list i
-    → (n * get_or list (5 * i + 0) 0 + get_or list (5 * i + 1) 0) * 150 + get_or list (5 * i + 2) 0 < first + m
-shown_inside = shows_inside
-
-pub any_bytes : (bytes : List ℕ) → ((i : ℕ) → i < length bytes → get_or bytes i 0 < 256) → AreBytes bytes
-any_bytes = bytes_are
-
--- no record shows the ID of its place
-pub not_the_place : {n first m : ℕ} {bytes list : List ℕ} {i : ℕ} → Shows n bytes first m list i
-    → fault (get_or list (5 * i + 4) 0 / 65536) (get_or list (5 * i + 4) 0 / 256 % 256) (get_or list (5 * i + 4) 0 % 256) (get_or list (5 * i + 0) 0)
-    (get_or list (5 * i + 1) 0) (get_or list (5 * i + 2) 0)
-    ≢ 0
-not_the_place = shows_fault
-
--- of two lists that differ in IDs alone each is decided by the other, and every record shows one of the blocks
-pub one_alike : {n first m kept : ℕ} {f g list₁ list₂ list₃ : List ℕ} → SameButIds n f g first m kept list₁ list₂
-    → SameButIds n f g first m kept list₁ list₃ → list₂ ≡ list₃
-one_alike a b = alike_one a b
-
-pub one_alike_back : {n first m kept : ℕ} {f g list₁ list₂ list₃ : List ℕ} → SameButIds n f g first m kept list₁ list₂
-    → SameButIds n f g first m kept list₃ list₂ → list₁ ≡ list₃
-one_alike_back a b = alike_back a b
-
-pub alike_shown : {n first m kept : ℕ} {f g list₁ list₂ : List ℕ} → SameButIds n f g first m kept list₁ list₂ → (i : ℕ) → i < kept
-    → (n * get_or list₁ (5 * i + 0) 0 + get_or list₁ (5 * i + 1) 0) * 150 + get_or list₁ (5 * i + 2) 0 < first + m
-alike_shown = alike_inside

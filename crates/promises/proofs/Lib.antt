@@ -3,7 +3,6 @@ pub mod Answering
 pub mod LaidOut
 pub mod One
 pub mod OneNumber
-pub mod FoundIds
 pub mod Apart
 pub mod Unrecorded
 pub mod Commentary

@@ -35,10 +35,10 @@ pub record SampleSalvaged (n : ℕ) (l : Contents) (f g : List ℕ) (c t : ℕ) 
 -- a survey of m blocks, the first of which is block `first` of the stream: its answer r, and the fault list before and after
 pub record Listed (n : ℕ) (bytes : List ℕ) (first m : ℕ) (list : List ℕ) (r : Survey) (list' : List ℕ) : Type 0 where
   -- "The fault list holds the blocks that do not name their place, from the first in stream order on, as many as it has room for, and nothing else"
-  pub listed : list' ≡ take (5 * r.kept) (records n bytes first m) ++ drop (5 * r.kept) list
-  pub kept : r.kept ≡ min (length list / 5) r.total
+  pub listed : list' ≡ take (4 * r.kept) (records n bytes first m) ++ drop (4 * r.kept) list
+  pub kept : r.kept ≡ min (length list / 4) r.total
   -- "its total is the number of all such blocks"
-  pub total : 5 * r.total ≡ length (records n bytes first m)
+  pub total : 4 * r.total ≡ length (records n bytes first m)
 
 -- the samples that salvage returns of any frame g: every position of every audio channel
 pub record SalvageOut (k : ℕ) (g : List ℕ) (samples : List ℤ) : Type 0 where

@@ -1,7 +1,7 @@
--- What is promised: `Demand1`, `Demand2` and `Demand3` are the customer's demands, under his own words, `Unrecorded`, `Commentary`, `SpareBits` and
--- `FoundIds` his requests. `Refusals` is document 01's refusal table, call by call, `Form` every byte that the writer decides, `Contents` what it is lent.
--- They are written with the words of crate `paper` and know no definition that the library is built on but for the values of an ID's answer; crate `kept`
--- has the theorems that they are kept.
+-- What is promised: `Demand1`, `Demand2` and `Demand3` are the customer's demands, under his own words, `Unrecorded`, `Commentary` and `SpareBits` his
+-- requests. `Refusals` is document 01's refusal table, call by call, `Form` every byte that the writer decides, `Contents` what it is lent. They are written
+-- with the words of crate `paper` and know no definition that the library is built on but for the values of an ID's answer; crate `kept` has the theorems
+-- that they are kept.
 pub mod Contents
 pub mod Refusals
 pub mod Form
@@ -11,4 +11,3 @@ pub mod Demand3
 pub mod Unrecorded
 pub mod Commentary
 pub mod SpareBits
-pub mod FoundIds

@@ -1,24 +1,23 @@
 -- The lines of a survey, one behind the other, are the text of its faults. Assumes nothing.
 use mathlib.Core.Path.{◌≡◌, refl, sym, ap, ap₂, ◌∙◌}
 use mathlib.Core.List.{List, [], ◌∷◌, ◌++◌, append_assoc, append-nil}
-use Prim.Native.Nat.{ℕ, zero, suc, ◌+◌, ◌*◌, ◌-◌, ◌/◌, ◌≤◌, ◌<◌, min}
+use Prim.Native.Nat.{ℕ, zero, suc, ◌+◌, ◌*◌, ◌-◌, ◌/◌, ◌≤◌, ◌<◌}
 use native.Mathlib.Omega.{arith}
-use lib.ListN.{length, get_or, take, drop, length-append, length-take, take-append-drop}
-use lib.Seq.{get_or-take, get_or-drop, take_at, drop-append-add}
+use lib.ListN.{length, take, drop, length-append}
+use lib.Seq.{take_at, drop-append-add}
 use borrow.Author.Tests.{eq-eqb, ne_eqb, le-ltb}
 use Rattle.base.specs.Run.{run}
 use Rattle.base.proofs.Cases.{by_eq}
-use Rattle.base.proofs.Parts.{length_part}
 use Rattle.base.proofs.Picks.{pick_true, pick_false}
 use Rattle.base.proofs.Runs.{run_same, run_none, run_split}
 use Rattle.paper.specs.declared.Fault.{Fault}
 use Rattle.paper.specs.declared.Survey.{Survey}
 use Rattle.rules_surveys.specs.Records.{numbers, width, flat, room, kept, after}
 use Rattle.rules_surveys.specs.Survey.{survey_answer, refusal}
-use Rattle.rules_surveys.proofs.Records.{numbers_length, flat_length, flat_append, kept_length}
-use Rattle.text.specs.Lines.{decimal, decimals, hex, line_of}
+use Rattle.rules_surveys.proofs.Records.{numbers_length, flat_length, kept_length}
+use Rattle.text.specs.Lines.{line_of}
 use Rattle.report.proofs.Ways.{at_record, at_totals, at_end, at_refusal, at_none}
-use Rattle.report.specs.Printed.{record_fields, record_line, totals_line, refusal_line, line_at, fault_line, fault_lines, survey_text, numbers_line, numbers_text}
+use Rattle.report.specs.Printed.{record_line, totals_line, refusal_line, line_at, fault_lines, survey_text}
 
 -- ---- a run of lines
 
@@ -34,12 +33,7 @@ run_one f m text e n = run_first f m ∙ ap (λ (l : List ℕ). f 0 ++ l) (run_n
 -- ---- the records
 
 abbrev line_of_record : List ℕ → ℕ → List ℕ
-line_of_record list i = line_of 0x46 (record_fields (take width (drop (width * i) list)))
-
--- the numbers of a record, four in decimal and the last in hex, are its line
-numbers_line_lem : (f : Fault) → line_of 0x46 (record_fields (numbers f)) ≡ fault_line f
-unfolding record_fields numbers decimals fault_line
-numbers_line_lem f = refl
+line_of_record list i = line_of 0x46 (take width (drop (width * i) list))
 
 records_text : (fs : List Fault) (rest : List ℕ) → run (line_of_record (flat fs ++ rest)) (length fs) ≡ fault_lines fs
 unfolding run flat fault_lines
@@ -51,8 +45,8 @@ records_text (f ∷ fs) rest =
     rw append_assoc
     (run_first (line_of_record (numbers f ++ later)) (length fs)
     ∙ ap₂ (λ (a b : List ℕ). a ++ b)
-    (ap (λ (l : List ℕ). line_of 0x46 (record_fields l)) (take_at (numbers f) later width (numbers_length f)) ∙ numbers_line_lem f)
-    (run_same _ (line_of_record later) (length fs) (λ i _. ap (λ (l : List ℕ). line_of 0x46 (record_fields (take width l))) (behind i)) ∙ records_text fs rest))
+    (ap (line_of 0x46) (take_at (numbers f) later width (numbers_length f)))
+    (run_same _ (line_of_record later) (length fs) (λ i _. ap (λ (l : List ℕ). line_of 0x46 (take width l)) (behind i)) ∙ records_text fs rest))
 
 -- ---- all lines
 
@@ -113,39 +107,3 @@ lines_text number fs list₀ list s m l es el =
     (λ d.
     let e : m ≡ suc (m - 1) = omega arith in
     rw e (lines_refused fs list₀ list s number (m - 1) d (es ∙ pick_false _ _ (ne_eqb _ _ d))) ∙ sym (pick_false _ _ (ne_eqb _ _ d)))
-
--- ---- in document 01's numbers: all are those of the records, one behind the other
-
--- five numbers as fields
-five_fields : (xs : List ℕ) → length xs ≡ 5
-    → record_fields xs ≡ decimal (get_or xs 0 0) ∷ decimal (get_or xs 1 0) ∷ decimal (get_or xs 2 0) ∷ decimal (get_or xs 3 0) ∷ hex (get_or xs 4 0) ∷ []
-unfolding record_fields decimals
-five_fields [] e = absurd (omega (arith, e))
-five_fields (a ∷ []) e = absurd (omega (arith, e))
-five_fields (a ∷ b ∷ []) e = absurd (omega (arith, e))
-five_fields (a ∷ b ∷ c ∷ []) e = absurd (omega (arith, e))
-five_fields (a ∷ b ∷ c ∷ d ∷ []) e = absurd (omega (arith, e))
-five_fields (a ∷ b ∷ c ∷ d ∷ x ∷ rest) e = refl
-
-line_numbers : (all : List ℕ) (i : ℕ) → 5 * i + 5 ≤ length all → line_of_record all i ≡ numbers_line all i
-line_numbers all i fits =
-    let part = take 5 (drop (5 * i) all) in
-    let at : (a : ℕ) → a < 5 → get_or part a 0 ≡ get_or all (5 * i + a) 0 = λ a h. get_or-take 5 (drop (5 * i) all) a 0 h ∙ get_or-drop (5 * i) all a 0 in
-    let nought : 5 * i + 0 ≡ 5 * i = omega arith in
-    ap (line_of 0x46) (
-    five_fields part (length_part (5 * i) 5 all fits)
-    ∙ rw (at 0 (omega arith), at 1 (omega arith), at 2 (omega arith), at 3 (omega arith), at 4 (omega arith), nought) refl)
-
-lines_numbers : (room : ℕ) (fs : List Fault) → fault_lines (take room fs) ≡ run (numbers_line (flat fs)) (min room (length fs))
-lines_numbers room fs =
-    let few = length-take room fs in
-    let whole : flat (take room fs) ++ flat (drop room fs) ≡ flat fs = sym (flat_append (take room fs) (drop room fs)) ∙ ap flat (take-append-drop room fs) in
-    sym (records_text (take room fs) (flat (drop room fs)))
-    ∙ rw (whole, few) (run_same _ _ (min room (length fs)) (λ i l. line_numbers (flat fs) i (omega (arith, flat_length fs, l))))
-
--- what is printed of faults goes by their records' numbers alone
-pub text_numbers : (room : ℕ) (fs : List Fault) → survey_text room 0 fs ≡ numbers_text room (flat fs)
-unfolding survey_text numbers_text totals_line
-text_numbers room fs =
-    let many : length (flat fs) / 5 ≡ length fs = omega (arith, flat_length fs) in
-    pick_true _ _ refl ∙ rw (many, ← lines_numbers room fs, length-take room fs) refl

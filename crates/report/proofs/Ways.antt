@@ -1,29 +1,27 @@
 -- Which line it is. Assumes nothing.
 use mathlib.Core.Path.{◌≡◌, refl, sym, ap, ◌∙◌}
-use mathlib.Core.List.{List, [], ◌∷◌, ◌++◌}
+use mathlib.Core.List.{List, [], ◌∷◌}
 use Prim.Native.Nat.{ℕ, ◌+◌, ◌*◌, ◌-◌, ◌≤◌, ◌<◌}
 use native.Mathlib.Omega.{arith}
 use lib.Dec.{leb}
-use lib.ListN.{length, get_or, take, drop}
-use lib.Seq.{get_or-take, get_or-drop, take-take}
+use lib.ListN.{length, take, drop}
 use borrow.Author.Tests.{eq-eqb, ne_eqb, lt-ltb, le-ltb, le-leb}
 use Rattle.base.proofs.Picks.{pick_true, pick_false, pick_either}
 use Rattle.base.proofs.Parts.{range_part, length_part}
 use Rattle.paper.specs.declared.Survey.{Survey}
 use Rattle.rules_surveys.specs.Records.{width}
-use Rattle.text.specs.Lines.{decimals, hex, line_of, line_in, Lined}
-use Rattle.report.specs.Printed.{record_fields, record_line, totals_line, refusal_line, line_at, in_room, Printed}
+use Rattle.text.specs.Lines.{line_of, line_in, Lined}
+use Rattle.report.specs.Printed.{record_line, totals_line, refusal_line, line_at, in_room, Printed}
 
--- ---- a line of at most five numbers, and the fields behind them
+-- ---- a line of at most five fields
 
-in_room_lem : (letter : ℕ) (xs : List ℕ) (behind : List (List ℕ)) (size : ℕ) → length xs ≤ 5 → line_in letter xs behind size ≡ in_room size (line_of letter (decimals xs ++ behind))
+in_room_lem : (letter : ℕ) (xs : List ℕ) (size : ℕ) → length xs ≤ 5 → line_in letter xs size ≡ in_room size (line_of letter xs)
 unfolding line_in in_room
-in_room_lem letter xs behind size l = rw (le-leb (length xs) 5 l) refl
+in_room_lem letter xs size l = rw (le-leb (length xs) 5 l) refl
 
-printed : (letter : ℕ) (xs : List ℕ) (behind : List (List ℕ)) (text out out' : List ℕ) (r : ℕ) → length xs ≤ 5 → text ≡ line_of letter (decimals xs ++ behind)
-    → Lined letter xs behind out out' r → Printed text out out' r
-printed letter xs behind text out out' r l e p =
-    let s : line_in letter xs behind (length out) ≡ in_room (length out) text = in_room_lem letter xs behind (length out) l ∙ ap (in_room (length out)) (sym e) in
+printed : (letter : ℕ) (xs text out out' : List ℕ) (r : ℕ) → length xs ≤ 5 → text ≡ line_of letter xs → Lined letter xs out out' r → Printed text out out' r
+printed letter xs text out out' r l e p =
+    let s : line_in letter xs (length out) ≡ in_room (length out) text = in_room_lem letter xs (length out) l ∙ ap (in_room (length out)) (sym e) in
     record { left = rw s at p.left; count = rw s at p.count; small = p.small }
 
 none_in : (size : ℕ) → in_room size [] ≡ []
@@ -44,22 +42,20 @@ module _ (list : List ℕ) (i : ℕ) where
   record_none out l = printed_none _ out (pick_true _ _ (lt-ltb _ _ l))
 
   pub record_printed : (out out' : List ℕ) (r : ℕ) → width * i + width ≤ length list
-      → Lined 0x46 (take (width * i + (width - 1) - width * i) (drop (width * i) list)) (hex (get_or list (width * i + (width - 1)) 0) ∷ []) out out' r → Printed (record_line list i) out out' r
-  unfolding record_line record_fields
+      → Lined 0x46 (take (width * i + width - width * i) (drop (width * i) list)) out out' r → Printed (record_line list i) out out' r
+  unfolding record_line
   record_printed out out' r l p =
-      let e = range_part (width * i) (width - 1) list in
-      let n : length (take (width - 1) (drop (width * i) list)) ≡ width - 1 = length_part (width * i) (width - 1) list (omega arith) in
-      let four : take (width - 1) (take width (drop (width * i) list)) ≡ take (width - 1) (drop (width * i) list) = take-take (width - 1) width (drop (width * i) list) (omega arith) in
-      let last : get_or (take width (drop (width * i) list)) (width - 1) 0 ≡ get_or list (width * i + (width - 1)) 0 = get_or-take width (drop (width * i) list) (width - 1) 0 (omega arith) ∙ get_or-drop (width * i) list (width - 1) 0 in
-      printed 0x46 (take (width - 1) (drop (width * i) list)) _ _ out out' r (omega (arith, n)) (pick_false _ _ (le-ltb _ _ l) ∙ rw (four, last) refl) (rw e at p)
+      let e = range_part (width * i) width list in
+      let n : length (take width (drop (width * i) list)) ≡ width = length_part (width * i) width list l in
+      printed 0x46 (take width (drop (width * i) list)) _ out out' r (omega (arith, n)) (pick_false _ _ (le-ltb _ _ l)) (rw e at p)
 
-pub totals_printed : (total kept : ℕ) (out out' : List ℕ) (r : ℕ) → Lined 0x54 (total ∷ kept ∷ []) [] out out' r → Printed (totals_line total kept) out out' r
-unfolding totals_line decimals
-totals_printed total kept out out' r p = printed 0x54 (total ∷ kept ∷ []) [] _ out out' r (omega arith) refl p
+pub totals_printed : (total kept : ℕ) (out out' : List ℕ) (r : ℕ) → Lined 0x54 (total ∷ kept ∷ []) out out' r → Printed (totals_line total kept) out out' r
+unfolding totals_line
+totals_printed total kept out out' r p = printed 0x54 (total ∷ kept ∷ []) _ out out' r (omega arith) refl p
 
-pub refusal_printed : (number : ℕ) (out out' : List ℕ) (r : ℕ) → Lined 0x45 (number ∷ []) [] out out' r → Printed (refusal_line number) out out' r
-unfolding refusal_line decimals
-refusal_printed number out out' r p = printed 0x45 (number ∷ []) [] _ out out' r (omega arith) refl p
+pub refusal_printed : (number : ℕ) (out out' : List ℕ) (r : ℕ) → Lined 0x45 (number ∷ []) out out' r → Printed (refusal_line number) out out' r
+unfolding refusal_line
+refusal_printed number out out' r p = printed 0x45 (number ∷ []) _ out out' r (omega arith) refl p
 
 -- ---- line i
 

@@ -1,27 +1,23 @@
 -- What is printed of a survey (document 01: the survey program).
-use Rattle.std.specs.Prelude.{◌≡◌, List, [], ◌∷◌, ◌++◌, ℕ, ◌+◌, ◌*◌, ◌-◌, ◌/◌, ◌≤◌, min, eqb, ltb, leb, length, get_or, take, drop}
+use Rattle.std.specs.Prelude.{◌≡◌, List, [], ◌∷◌, ◌++◌, ℕ, ◌+◌, ◌*◌, ◌≤◌, eqb, ltb, leb, length, take, drop}
 use Rattle.base.specs.Pick.{pick}
 use Rattle.base.specs.Run.{run}
 use Rattle.paper.specs.declared.Fault.{Fault}
 use Rattle.paper.specs.declared.Survey.{Survey}
-use Rattle.rules_surveys.specs.Records.{width}
-use Rattle.text.specs.Lines.{decimal, decimals, hex, line_of}
+use Rattle.rules_surveys.specs.Records.{numbers, width}
+use Rattle.text.specs.Lines.{line_of}
 
--- "The `F` line gains it as a last field of six upper-case hex digits": the fields of a record by its numbers, of which the last is the ID
-unfoldable pub record_fields : List ℕ → List (List ℕ)
-record_fields xs = decimals (take (width - 1) xs) ++ (hex (get_or xs (width - 1) 0) ∷ [])
-
--- record i of the list, where it holds that
+-- "It prints `F`, channel, sequence, place, fault, parted by tabs": record i of the list, where it holds that
 unfoldable pub record_line : List ℕ → ℕ → List ℕ
-record_line list i = pick (ltb (length list) (width * i + width)) [] (line_of 0x46 (record_fields (take width (drop (width * i) list))))
+record_line list i = pick (ltb (length list) (width * i + width)) [] (line_of 0x46 (take width (drop (width * i) list)))
 
 -- "then `T`, total, kept"
 unfoldable pub totals_line : ℕ → ℕ → List ℕ
-totals_line total kept = line_of 0x54 (decimal total ∷ decimal kept ∷ [])
+totals_line total kept = line_of 0x54 (total ∷ kept ∷ [])
 
 -- "`E`, tab, `2` only"
 unfoldable pub refusal_line : ℕ → List ℕ
-refusal_line number = line_of 0x45 (decimal number ∷ [])
+refusal_line number = line_of 0x45 (number ∷ [])
 
 -- line i of what is printed
 unfoldable pub line_at : Survey → List ℕ → ℕ → List ℕ
@@ -65,13 +61,9 @@ pub record Texting (s : Survey) (list out₀ out : List ℕ) (at i : ℕ) : Type
 
 -- ---- what it is of a survey's faults
 
--- "It prints `F`, channel, sequence, place, fault, parted by tabs", and the ID that was found
-unfoldable pub fault_line : Fault → List ℕ
-fault_line f = line_of 0x46 (decimal f.channel ∷ decimal f.sequence ∷ decimal f.place.0 ∷ decimal f.fault ∷ hex f.id ∷ [])
-
 unfoldable pub fault_lines : List Fault → List ℕ
 fault_lines [] = []
-fault_lines (f ∷ fs) = fault_line f ++ fault_lines fs
+fault_lines (f ∷ fs) = line_of 0x46 (numbers f) ++ fault_lines fs
 
 -- what is printed of a survey with this number and these faults, which has room for so many records
 unfoldable pub survey_text : ℕ → ℕ → List Fault → List ℕ
@@ -79,21 +71,3 @@ survey_text room number fs =
     pick (eqb number 0)
     (fault_lines (take room fs) ++ totals_line (length fs) (length (take room fs)))
     (refusal_line number)
-
--- ---- and by the numbers of all records, five a record, as document 01 has them
-
--- "`F`, channel, sequence, place, fault, parted by tabs", and "a last field of six upper-case hex digits"
-abbrev pub numbers_line : List ℕ → ℕ → List ℕ
-numbers_line all i = line_of 0x46 (
-    decimal (get_or all (5 * i) 0)
-    ∷ decimal (get_or all (5 * i + 1) 0)
-    ∷ decimal (get_or all (5 * i + 2) 0)
-    ∷ decimal (get_or all (5 * i + 3) 0)
-    ∷ hex (get_or all (5 * i + 4) 0)
-    ∷ [])
-
--- the first, as many as there is room for, then "`T`, total, kept"
-unfoldable pub numbers_text : ℕ → List ℕ → List ℕ
-numbers_text room all =
-    run (numbers_line all) (min room (length all / 5))
-    ++ line_of 0x54 (decimal (length all / 5) ∷ decimal (min room (length all / 5)) ∷ [])

@@ -17,8 +17,7 @@ fn record_line(list: &[u32], i: u32, out: &mut [u8]) -> usize
     if list.len() < at + RECORD {
         return 0;
     }
-    let last = at + (RECORD - 1);
-    text::hex_line(b'F', &list[at..last], list[last], out)
+    text::line(b'F', &list[at..at + RECORD], out)
 }
 
 fn totals_line(total: u32, kept: u32, out: &mut [u8]) -> usize

@@ -1,7 +1,7 @@
 -- Laws of block IDs. Assumes nothing.
 use mathlib.Core.Path.{◌≡◌, refl, ◌∙◌}
 use mathlib.Core.Bool.{true, false, Bool}
-use mathlib.Core.List.{List, [], ◌∷◌}
+use mathlib.Core.List.{List}
 use Prim.Native.Nat.{ℕ, ◌+◌, ◌*◌, ◌/◌, ◌≤◌, ◌<◌, ◌%◌}
 use native.Mathlib.Omega.{arith}
 use lib.Dec.{eqb, ltb, eqb→eq}
@@ -11,7 +11,7 @@ use Rattle.base.specs.Pick.{pick}
 use Rattle.base.proofs.Picks.{pick_true, pick_false}
 use Rattle.paper.specs.declared.IdAnswer.TheVariants.{Named, Reserved, WrongLength}
 use Rattle.rules_format.specs.Places.{code_of}
-use Rattle.rules_format.specs.Ids.{section_bits, channel_of, named_by, spare_in, id_answer, id_found, fsc_of, fsp_of, byte0_of, byte1_of, byte2_of, id_bytes}
+use Rattle.rules_format.specs.Ids.{section_bits, channel_of, named_by, spare_in, id_answer, fsc_of, fsp_of, byte0_of, byte1_of, byte2_of, id_bytes}
 use Rattle.rules_format.proofs.Places.{section_code, code_below}
 use native.Mathlib.Nat.{mod-eq_of_lt}
 use Rattle.base.proofs.Below.{below_at}
@@ -44,25 +44,6 @@ answer_long id e w = three (ltb (section_bits id) 5) (rw (eq-eqb _ _ e) at w)
     three : (b : Bool) → pick b (Named (named_by id) (spare_in id)) Reserved ≡ WrongLength → ⊥
     three true z = let q : ◌≡◌ {A = ℕ} 0 1 = cc in omega arith
     three false z = let q : ◌≡◌ {A = ℕ} 0 1 = cc in omega arith
-
--- ---- idFound
-
--- "byte 0 times 65,536 plus byte 1 times 256 plus byte 2"
-pub found_is : (block : List ℕ) → id_found block ≡ get_or block 0 0 * 65536 + get_or block 1 0 * 256 + get_or block 2 0
-unfolding id_found
-found_is block = refl
-
--- in print: 95h, 1Ah, 86h; all ones; all zeros
-pub found_known : (id_found (0x95 ∷ 0x1A ∷ 0x86 ∷ []) ≡ 0x951A86) × (id_found (0xFF ∷ 0xFF ∷ 0xFF ∷ []) ≡ 0xFFFFFF) × (id_found (0 ∷ 0 ∷ 0 ∷ []) ≡ 0)
-unfolding id_found
-found_known = (refl, refl, refl)
-
--- three bytes are told back from their number
-pub three_told : (a b c : ℕ) → b < 256 → c < 256
-    → ((a * 65536 + b * 256 + c) / 65536 ≡ a) × ((a * 65536 + b * 256 + c) / 256 % 256 ≡ b) × ((a * 65536 + b * 256 + c) % 256 ≡ c)
-three_told a b c hb hc =
-    let high : (a * 65536 + b * 256 + c) / 256 ≡ a * 256 + b = omega (arith, hc) in
-    (omega (arith, hb, hc), rw high (omega (arith, hb)), omega (arith, hc))
 
 -- ---- idBytes
 

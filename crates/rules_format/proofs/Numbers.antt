@@ -28,7 +28,7 @@ use Rattle.paper.specs.Paper.{sound_start, sound_word, sample_by, figure3, chann
 use Rattle.rules_format.specs.InNumbers.{InNumbers, SystemsInNumbers, IdsInNumbers, BlocksInNumbers, SoundInNumbers}
 use Rattle.rules_format.proofs.Systems.{system_number, system_above, half_cases, half_twice, positions_half, sequences_some}
 use Rattle.rules_format.proofs.Places.{place_for_entry, place_for_none, place_of_entry, entry_of_place, number_below}
-use Rattle.rules_format.proofs.Ids.{channel_pairs, found_is, found_known, read_id_0, read_id_11, read_id_4}
+use Rattle.rules_format.proofs.Ids.{channel_pairs, read_id_0, read_id_11, read_id_4}
 use Rattle.rules_format.proofs.Blocks.{start_within, block_in_sequence, part_taken, part_refused}
 use Rattle.rules_format.proofs.Samples.{lost_word, sample_lost, sample_level, sample_none, heard_is, word_is, back_is, all_in, all_pass}
 use Rattle.rules_format.proofs.Sound.{rank_below, audio_below, word_below, sequence_below, sample_back, audio_sequence, rank_sequence_lem}
@@ -171,8 +171,6 @@ id_answers_are = record {
   reserved = read_id_11;
   wrong_length = read_id_4;
   values = λ b s. (refl, refl, refl);
-  found = found_is;
-  found_known = found_known;
 }
 
 blocks_are : BlocksInNumbers

@@ -64,10 +64,6 @@ id_answer id = pick (eqb (length id) 3) (pick (ltb (section_bits id) 5) (Named (
 abbrev pub block_answer : List ℕ → IdAnswer
 block_answer block = id_answer (take 3 block)
 
--- the ID of a block as found, whatever it names: "the three ID bytes as byte 0 times 65,536 plus byte 1 times 256 plus byte 2"
-unfoldable pub id_found : List ℕ → ℕ
-id_found block = get_or block 0 0 * 65536 + get_or block 1 0 * 256 + get_or block 2 0
-
 -- the paper's number and values for each answer
 abbrev pub id_refusal : ℕ → IdValues
 id_refusal k = record { number = k; section = 0; channel = 0; dseq = 0; dbn = 0; arbitrary = 0; reserved = 0 }

@@ -9,7 +9,7 @@ use Rattle.rules_format.specs.Blocks
 use Rattle.rules_format.specs.Blocks.{start_of, Holds, block_at, block_in, sequence_at, part_at}
 use Rattle.rules_format.specs.Places.{place_in, code_of, section_of, place, entry_at, place_for, place_of}
 use Rattle.rules_format.specs.Ids.{id_at, section_bits, dseq_bits, fsc_bit, fsp_bit, dbn_byte, arbitrary_bits, reserved_bits, channel_of, id_bytes, id_of}
-use Rattle.rules_format.specs.Ids.{id_answer, id_values, id_found}
+use Rattle.rules_format.specs.Ids.{id_answer, id_values}
 use Rattle.rules_format.specs.Samples.{all_in_range, number_of, in_range, sample_in, sample_of, word_for, back_of, bytes_of}
 use Rattle.rules_format.specs.Sound.{dif_of, half_at, rank_of, audio_of, word_number, audio_at, rank_at, first_at, sample_at, byte_of}
 use Rattle.rules_format.specs.Faults
@@ -94,9 +94,6 @@ pub record IdsInNumbers : Type 0 where
       })
       × (id_values Reserved ≡ record { number = 11; section = 0; channel = 0; dseq = 0; dbn = 0; arbitrary = 0; reserved = 0 })
       × (id_values WrongLength ≡ record { number = 4; section = 0; channel = 0; dseq = 0; dbn = 0; arbitrary = 0; reserved = 0 })
-  -- the ID as found: "byte 0 times 65,536 plus byte 1 times 256 plus byte 2"
-  pub found : (block : List ℕ) → id_found block ≡ get_or block 0 0 * 65536 + get_or block 1 0 * 256 + get_or block 2 0
-  pub found_known : (id_found (0x95 ∷ 0x1A ∷ 0x86 ∷ []) ≡ 0x951A86) × (id_found (0xFF ∷ 0xFF ∷ 0xFF ∷ []) ≡ 0xFFFFFF) × (id_found (0 ∷ 0 ∷ 0 ∷ []) ≡ 0)
 
 -- Places and blocks
 pub record BlocksInNumbers : Type 0 where

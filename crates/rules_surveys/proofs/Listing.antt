@@ -19,13 +19,12 @@ use Rattle.paper.specs.declared.Survey.{Survey}
 use Rattle.rules_format.specs.Systems.{sequences_of}
 use Rattle.rules_format.specs.Places.{place}
 use Rattle.rules_format.specs.Blocks.{block_in}
-use Rattle.rules_format.specs.Ids.{id_found}
 use Rattle.rules_format.specs.Faults.{fault_at}
 use Rattle.rules_surveys.specs.FaultLists.{block_faults, sequence_faults, frame_faults, unnamed}
 use Rattle.rules_surveys.specs.Records.{numbers, width, flat, kept, after}
 use Rattle.rules_surveys.specs.Survey.{outside_sequences, survey_number, sequence_number, Surveyed, FrameSurveyed, SequenceSurveyed}
 use Rattle.rules_surveys.specs.Salvage.{salvage_number, Salvaged}
-use Rattle.paper.specs.Paper.{sequences, fault, stream_id, records}
+use Rattle.paper.specs.Paper.{sequences, fault, records}
 use Rattle.promises.specs.Demand3.{Listed}
 use Rattle.rules_format.proofs.Systems.{sequences_some}
 use Rattle.rules_surveys.proofs.FaultLists.{faults_stream}
@@ -33,7 +32,6 @@ use Rattle.rules_surveys.proofs.Records.{flat_length, flat_run, kept_length, kep
 use Rattle.rules_surveys.proofs.Calls.{survey_taken, survey_1, survey_2, sequence_1, sequence_3, sequence_4, inside_means}
 use Rattle.rules_surveys.proofs.Salvage.{salvage_1, salvage_surveys}
 use Rattle.rules_surveys.proofs.Answering.{survey_number_lem}
-use Rattle.rules_format.proofs.Ids.{found_is}
 use Rattle.rules_format.proofs.Paper.{columns, by_system, fault_is}
 use Rattle.promises.proofs.One.{listed_one}
 
@@ -49,20 +47,15 @@ module _ (bytes : List ℕ) (j h q p : ℕ) (room : j * 80 + 80 ≤ length bytes
   byte_is : (i : ℕ) → i < 80 → get_or block i 0 ≡ get_or bytes (j * 80 + i) 0
   byte_is i l = get_or-take 80 (drop (j * 80) bytes) i 0 l ∙ get_or-drop (j * 80) bytes i 0
 
-  first_is : get_or block 0 0 ≡ get_or bytes (j * 80) 0
-  first_is = let e : j * 80 + 0 ≡ j * 80 = omega arith in byte_is 0 (omega arith) ∙ ap (λ (a : ℕ). get_or bytes a 0) e
-
   pub block_fault : fault_at block h q p ≡ found
   block_fault =
-      fault_is block h q p (omega (arith, length_part (j * 80) 80 bytes room)) ∙ rw (first_is, byte_is 1 (omega arith), byte_is 2 (omega arith)) refl
+      let e : j * 80 + 0 ≡ j * 80 = omega arith in
+      let first = byte_is 0 (omega arith) ∙ ap (λ (a : ℕ). get_or bytes a 0) e in
+      fault_is block h q p (omega (arith, length_part (j * 80) 80 bytes room)) ∙ rw (first, byte_is 1 (omega arith), byte_is 2 (omega arith)) refl
 
-  block_id : id_found block ≡ stream_id bytes j
-  block_id = found_is block ∙ rw (first_is, byte_is 1 (omega arith), byte_is 2 (omega arith)) refl
-
-  block_record : flat (block_faults block h q p)
-      ≡ pick (eqb found 0) [] (numbers (record { channel = h; sequence = q; place = place p; fault = found; id = stream_id bytes j }))
+  block_record : flat (block_faults block h q p) ≡ pick (eqb found 0) [] (numbers (record { channel = h; sequence = q; place = place p; fault = found }))
   unfolding block_faults flat pick
-  block_record = rw (block_fault, block_id) (by_bool (eqb found 0) (λ e. rw e refl) (λ e. rw e (append-nil _)))
+  block_record = rw block_fault (by_bool (eqb found 0) (λ e. rw e refl) (λ e. rw e (append-nil _)))
 
 -- ---- records
 

@@ -8,7 +8,6 @@ use Rattle.paper.specs.declared.Fault.{Fault}
 use Rattle.rules_format.specs.Systems.{sequences_of, in_system}
 use Rattle.rules_format.specs.Places.{place}
 use Rattle.rules_format.specs.Blocks.{sequence_at, block_in}
-use Rattle.rules_format.specs.Ids.{id_found}
 use Rattle.rules_format.specs.Faults.{fault_at, names}
 use Rattle.rules_format.specs.Stream.{channel_at, named, dseq_at, place_at, nth_block}
 
@@ -16,7 +15,7 @@ use Rattle.rules_format.specs.Stream.{channel_at, named, dseq_at, place_at, nth_
 
 -- one record where the block does not name its place, and none where it does
 unfoldable pub block_faults : List ℕ → ℕ → ℕ → ℕ → List Fault
-block_faults block h q p = pick (names block h q p) [] (record { channel = h; sequence = q; place = place p; fault = fault_at block h q p; id = id_found block } ∷ [])
+block_faults block h q p = pick (names block h q p) [] (record { channel = h; sequence = q; place = place p; fault = fault_at block h q p } ∷ [])
 
 abbrev pub place_faults : List ℕ → ℕ → ℕ → ℕ → List Fault
 place_faults sequence h q p = block_faults (block_in sequence p) h q p
@@ -45,7 +44,6 @@ record_of y frame j = record {
   sequence = dseq_at y j;
   place = place (place_at j);
   fault = fault_at (nth_block frame j) (channel_at y j) (dseq_at y j) (place_at j);
-  id = id_found (nth_block frame j);
 }
 
 -- the records of the first m blocks that do not name their place

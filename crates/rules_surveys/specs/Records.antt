@@ -1,21 +1,21 @@
--- Survey records in a lent list (document 01: "Survey records are [five] unsigned 32-bit numbers").
+-- Survey records in a lent list (document 01: "Survey records are four unsigned 32-bit numbers").
 use Rattle.std.specs.Prelude.{List, [], ◌∷◌, ◌++◌, ℕ, ◌*◌, ◌/◌, length, take, drop}
 use Rattle.paper.specs.declared.Fault.{Fault}
 
--- "channel, sequence, place, fault", and "a fifth number", the ID found
+-- "channel, sequence, place, fault"
 unfoldable pub numbers : Fault → List ℕ
-numbers f = f.channel ∷ f.sequence ∷ f.place.0 ∷ f.fault ∷ f.id ∷ []
+numbers f = f.channel ∷ f.sequence ∷ f.place.0 ∷ f.fault ∷ []
 
 -- how many they are
 abbrev pub width : ℕ
-width = 5
+width = 4
 
 -- record after record
 unfoldable pub flat : List Fault → List ℕ
 flat [] = []
 flat (f ∷ fs) = numbers f ++ flat fs
 
--- "Room becomes the list's length div 5"
+-- "Room is the list's length div 4"
 unfoldable pub room : List ℕ → ℕ
 room list = length list / width
 

@@ -1,5 +1,5 @@
 -- What is printed is what document 01 says of the bytes that the refills gave. Assumes nothing.
-use mathlib.Core.Path.{◌≡◌, refl, sym, ap, ◌∙◌}
+use mathlib.Core.Path.{◌≡◌, refl, sym, ◌∙◌}
 use mathlib.Core.List.{List, [], ◌∷◌}
 use Prim.Native.Nat.{ℕ, ◌*◌, ◌/◌, ◌<◌}
 use native.Mathlib.Omega.{arith}
@@ -8,17 +8,15 @@ use borrow.Author.Tests.{le-leb}
 use Rattle.base.proofs.Picks.{pick_true, pick_false}
 use Rattle.paper.specs.declared.System.{System}
 use Rattle.paper.specs.declared.Survey.{Survey}
-use Rattle.paper.specs.Paper.{records}
 use Rattle.rules_format.specs.Systems.{sequences_of, rate_of, number_of_system}
 use Rattle.rules_surveys.specs.FaultLists.{frame_faults}
 use Rattle.rules_surveys.specs.Records.{width}
 use Rattle.rules_format.proofs.Systems.{system_number, sequences_some}
 use Rattle.rules_surveys.proofs.Records.{noted_length}
-use Rattle.rules_surveys.proofs.Calls.{survey_0, survey_2}
-use Rattle.rules_surveys.proofs.Listing.{frame_records}
+use Rattle.rules_surveys.proofs.Calls.{survey_2}
 use Rattle.text.proofs.Known.{known_refusal}
-use Rattle.report.specs.Printed.{refusal_line, survey_text, numbers_text, lines_of, text_in, Texted}
-use Rattle.report.proofs.Said.{lines_text, text_numbers}
+use Rattle.report.specs.Printed.{refusal_line, survey_text, lines_of, text_in, Texted}
+use Rattle.report.proofs.Said.{lines_text}
 use Rattle.stream.specs.declared.Reading.{Reading}
 use Rattle.stream.specs.Input.{dsf_in}
 use Rattle.verdict.specs.Length.{answer_of, Answered}
@@ -34,15 +32,6 @@ module _ (list₀ buf list : List ℕ) (r : Reading) (room : length list₀ ≡ 
       let s = (answered_is r (length list)).surveys list₀ (bytes_of d.before buf r) list (sym size) d.read y rate in
       let all : length list₀ / width ≡ 64 = omega arith in
       lines_text _ (frame_faults y (bytes_of d.before buf r)) list₀ list _ 65 (omega arith) s.answer s.left ∙ rw all refl
-
-  -- of a frame's length they are the records of document 01, with the ID found, as many as 64, and their total
-  pub prints_records : length (bytes_of d.before buf r) ≡ 48000 * sequences_of y
-      → lines_of (answer_of r (length list)) list ≡ numbers_text 64 (records (sequences_of y) (bytes_of d.before buf r) 0 (600 * sequences_of y))
-  prints_records whole =
-      let bytes = bytes_of d.before buf r in
-      program_prints
-      ∙ rw (survey_0 (number_of_system y) (length bytes) y (system_number y) whole) (text_numbers 64 (frame_faults y bytes))
-      ∙ ap (numbers_text 64) (frame_records y bytes whole)
 
   -- "A wrong length .. prints `E`, tab, `2` only."
   pub prints_wrong_length : (length (bytes_of d.before buf r) ≡ 48000 * sequences_of y → ⊥) → lines_of (answer_of r (length list)) list ≡ 0x45 ∷ 0x09 ∷ 0x32 ∷ 0x0A ∷ []

@@ -1,19 +1,18 @@
 -- Pieces of a line that are written one behind the other. Assumes nothing.
 use mathlib.Core.Path.{◌≡◌, refl, sym, ap, ◌∙◌}
-use mathlib.Core.List.{List, [], ◌∷◌, ◌++◌, append_assoc}
-use Prim.Native.Nat.{ℕ, ◌+◌, ◌/◌, ◌%◌, ◌≤◌, ◌<◌}
+use mathlib.Core.List.{List, [], ◌∷◌, ◌++◌, append_assoc, append-nil}
+use Prim.Native.Nat.{ℕ, ◌+◌, ◌≤◌, ◌<◌}
 use native.Mathlib.Nat.{zero-add}
 use native.Mathlib.Numerals.{add-one}
 use native.Mathlib.Omega.{arith}
 use lib.ListN.{length, take, drop, get_or, set, length-append, length-drop, take-append-drop}
-use lib.Seq.{paste, paste-suc, take_all, take_at, drop-append-add, drop-drop, length-take-le, set_split}
+use lib.Seq.{paste, paste-suc, take-suc, take_all, take_at, drop-append-add, drop-drop, length-take-le, set_split}
 use borrow.Author.Tests.{le-leb, lt-leb}
 use Rattle.base.proofs.Picks.{pick_true, pick_false}
 use Rattle.io.specs.Digits.{last_digits, IsDigitCount}
 use Rattle.io.specs.Counts.{IsPrefixLen}
-use Rattle.text.specs.Lines.{decimal, decimals, hex_digit, hex, fields_of, line_of, line_in, Put, PutField, FieldsAsked, Fielding, Lined}
+use Rattle.text.specs.Lines.{decimal, fields_of, line_of, line_in, Put, PutField, FieldsAsked, Fielding, Lined}
 use Rattle.text.proofs.Decimals.{fewest_decimal, decimal_few}
-use Rattle.text.proofs.Fields.{fields_append, fields_none, fields_one, fields_more}
 
 -- ---- pieces
 
@@ -70,18 +69,28 @@ module _ (x k : ℕ) (digits' : List ℕ) (l : x < 4294967296) (c : IsPrefixLen 
   pub number_put : (out out' : List ℕ) (at r : ℕ) → Put (take k digits') at out out' r → PutField (decimal x) 10 at out out' r
   number_put out out' at r p = record { put = rw number_text at p; small = omega (arith, p.ends, c.1, decimal_few k x l f) }
 
--- ---- put_field, put_front
+-- ---- put_field
 
--- a byte, and a piece behind it
-pub byte_before : (byte at next r most more : ℕ) (piece out out' out'' : List ℕ) → Put (byte ∷ []) at out out' next → PutField piece most next out' out'' r → most < more
-    → PutField (byte ∷ piece) more at out out'' r
-byte_before byte at next r most more piece out out' out'' p q l = record { put = put_both p q.put; small = omega (arith, p.ends, q.small) }
+pub field_put : (x at next r : ℕ) (out out' out'' : List ℕ) → Put (9 ∷ []) at out out' next → PutField (decimal x) 10 next out' out'' r → PutField (9 ∷ decimal x) 11 at out out'' r
+field_put x at next r out out' out'' p q = record { put = put_both p q.put; small = omega (arith, p.ends, q.small) }
 
 -- ---- put_fields
 
+fields_append : (xs ys : List ℕ) → fields_of (xs ++ ys) ≡ fields_of xs ++ fields_of ys
+unfolding fields_of
+fields_append [] ys = refl
+fields_append (x ∷ xs) ys = ap (λ (l : List ℕ). (9 ∷ decimal x) ++ l) (fields_append xs ys) ∙ sym (append_assoc (9 ∷ decimal x) (fields_of xs) (fields_of ys))
+
+fields_one : (x : ℕ) → fields_of (x ∷ []) ≡ 9 ∷ decimal x
+unfolding fields_of
+fields_one x = append-nil (9 ∷ decimal x)
+
+fields_more : (xs : List ℕ) (i : ℕ) → i < length xs → fields_of (take (i + 1) xs) ≡ fields_of (take i xs) ++ (9 ∷ decimal (get_or xs i 0))
+fields_more xs i h = rw (add-one, take-suc xs i 0 h) (fields_append (take i xs) (get_or xs i 0 ∷ []) ∙ ap (λ (l : List ℕ). fields_of (take i xs) ++ l) (fields_one (get_or xs i 0)))
+
 module _ (xs out₀ : List ℕ) (at : ℕ) (a : FieldsAsked xs out₀ at) where
   pub fields_start : Fielding xs at out₀ out₀ at 0
-  unfolding fields_of decimals
+  unfolding fields_of
   fields_start = record { put = put_none at out₀ (omega (arith, a.room)); size = refl; small = omega arith; turns = omega arith }
 
   module _ (out : List ℕ) (end i : ℕ) (g : Fielding xs at out₀ out end i) where
@@ -92,59 +101,39 @@ module _ (xs out₀ : List ℕ) (at : ℕ) (a : FieldsAsked xs out₀ at) where
     fields_turn l out' r p es =
         record { put = rw (fields_more xs i l) (put_both g.put p.put); size = es ∙ g.size; small = omega (arith, p.small, g.small); turns = omega arith }
 
-    pub fields_done : length xs ≤ i → PutField (fields_of (decimals xs)) 55 at out₀ out end
+    pub fields_done : length xs ≤ i → PutField (fields_of xs) 55 at out₀ out end
     fields_done l = record { put = rw (take_all i xs l) at g.put; small = omega (arith, g.small, g.turns, a.few) }
 
--- ---- put_hex
+-- ---- line
 
-pub hex_put : (x at r d0 d1 d2 d3 d4 d5 : ℕ) (out out' : List ℕ) → Put (9 ∷ d0 ∷ d1 ∷ d2 ∷ d3 ∷ d4 ∷ d5 ∷ []) at out out' r
-    → d0 ≡ hex_digit (x / 1048576 % 16) → d1 ≡ hex_digit (x / 65536 % 16) → d2 ≡ hex_digit (x / 4096 % 16) → d3 ≡ hex_digit (x / 256 % 16) → d4 ≡ hex_digit (x / 16 % 16) → d5 ≡ hex_digit (x % 16)
-    → PutField (9 ∷ hex x) 7 at out out' r
-unfolding hex
-hex_put x at r d0 d1 d2 d3 d4 d5 out out' p e0 e1 e2 e3 e4 e5 = record { put = rw (← e0, ← e1, ← e2, ← e3, ← e4, ← e5) p; small = omega (arith, p.ends) }
+lined : (letter : ℕ) (xs out₀ out' text : List ℕ) (r : ℕ) → line_in letter xs (length out₀) ≡ text → out' ≡ text ++ drop (length text) out₀ → r ≡ length text → r ≤ 64 → Lined letter xs out₀ out' r
+lined letter xs out₀ out' text r e l er m = record { left = rw e l; count = rw e er; small = m }
 
--- ---- line, hex_line
+module _ (letter : ℕ) (xs : List ℕ) (size : ℕ) where
+  line_whole : length xs ≤ 5 → 64 ≤ size → line_in letter xs size ≡ line_of letter xs
+  unfolding line_in
+  line_whole a b = pick_true _ _ (rw (le-leb (length xs) 5 a, le-leb 64 size b) refl)
 
-module _ (letter : ℕ) (xs : List ℕ) (behind : List (List ℕ)) where
-  lined : (out₀ out' text : List ℕ) (r : ℕ) → line_in letter xs behind (length out₀) ≡ text → out' ≡ text ++ drop (length text) out₀ → r ≡ length text → r ≤ 64 → Lined letter xs behind out₀ out' r
-  lined out₀ out' text r e l er m = record { left = rw e l; count = rw e er; small = m }
+  line_none_many : 5 < length xs → line_in letter xs size ≡ []
+  unfolding line_in
+  line_none_many a = pick_false _ _ (rw (lt-leb (length xs) 5 a) refl)
 
-  module _ (size : ℕ) where
-    line_whole : length xs ≤ 5 → 64 ≤ size → line_in letter xs behind size ≡ line_of letter (decimals xs ++ behind)
-    unfolding line_in
-    line_whole a b = pick_true _ _ (rw (le-leb (length xs) 5 a, le-leb 64 size b) refl)
+  line_none_narrow : length xs ≤ 5 → size < 64 → line_in letter xs size ≡ []
+  unfolding line_in
+  line_none_narrow a b = pick_false _ _ (rw (le-leb (length xs) 5 a, lt-leb 64 size b) refl)
 
-    line_none_many : 5 < length xs → line_in letter xs behind size ≡ []
-    unfolding line_in
-    line_none_many a = pick_false _ _ (rw (lt-leb (length xs) 5 a) refl)
+module _ (letter : ℕ) (xs out₀ : List ℕ) where
+  pub line_many : 5 < length xs → Lined letter xs out₀ out₀ 0
+  line_many l = lined letter xs out₀ out₀ [] 0 (line_none_many letter xs (length out₀) l) refl refl (omega arith)
 
-    line_none_narrow : length xs ≤ 5 → size < 64 → line_in letter xs behind size ≡ []
-    unfolding line_in
-    line_none_narrow a b = pick_false _ _ (rw (le-leb (length xs) 5 a, lt-leb 64 size b) refl)
+  module _ (most : length xs ≤ 5) where
+    pub line_narrow : length out₀ < 64 → Lined letter xs out₀ out₀ 0
+    line_narrow l = lined letter xs out₀ out₀ [] 0 (line_none_narrow letter xs (length out₀) most l) refl refl (omega arith)
 
-  module _ (out₀ : List ℕ) where
-    pub line_many : 5 < length xs → Lined letter xs behind out₀ out₀ 0
-    line_many l = lined out₀ out₀ [] 0 (line_none_many (length out₀) l) refl refl (omega arith)
-
-    module _ (most : length xs ≤ 5) where
-      pub line_narrow : length out₀ < 64 → Lined letter xs behind out₀ out₀ 0
-      line_narrow l = lined out₀ out₀ [] 0 (line_none_narrow (length out₀) most l) refl refl (omega arith)
-
-      -- the front, the fields behind it as one piece, a newline
-      line_done : (room : 64 ≤ length out₀) (piece out out' out'' : List ℕ) (front end r : ℕ) → fields_of behind ≡ piece → PutField (letter ∷ fields_of (decimals xs)) 56 0 out₀ out front
-          → PutField piece 7 front out out' end → Put (10 ∷ []) end out' out'' r → Lined letter xs behind out₀ out'' r
-      unfolding line_of
-      line_done room piece out out' out'' front end r e p q t =
-          let w = put_both (put_both p.put q.put) t in
-          let whole : line_in letter xs behind (length out₀) ≡ ((letter ∷ fields_of (decimals xs)) ++ piece) ++ (10 ∷ []) =
-          line_whole (length out₀) most room ∙ rw (fields_append (decimals xs) behind, e) refl in
-          lined out₀ out'' _ r whole (w.left ∙ rw zero-add refl) (w.ends ∙ zero-add _) (omega (arith, p.small, q.small, t.ends))
-
-module _ (letter : ℕ) (xs out₀ : List ℕ) (most : length xs ≤ 5) (room : 64 ≤ length out₀) (out out' : List ℕ) (front r : ℕ) (p : PutField (letter ∷ fields_of (decimals xs)) 56 0 out₀ out front) where
-  pub line_plain : Put (10 ∷ []) front out out' r → Lined letter xs [] out₀ out' r
-  line_plain t =
-      let none : PutField [] 7 front out out front = record { put = put_none front out (omega (arith, t.within)); small = omega arith } in
-      line_done letter xs [] out₀ most room [] out out out' front front r fields_none p none t
-
-  pub line_hex : (last end : ℕ) (out'' : List ℕ) → PutField (9 ∷ hex last) 7 front out out'' end → Put (10 ∷ []) end out'' out' r → Lined letter xs (hex last ∷ []) out₀ out' r
-  line_hex last end out'' q t = line_done letter xs (hex last ∷ []) out₀ most room (9 ∷ hex last) out out'' out' front end r (fields_one (hex last)) p q t
+    module _ (room : 64 ≤ length out₀) (out : List ℕ) (first : ℕ) (p : Put (letter ∷ []) 0 out₀ out first) (es : length out ≡ length out₀) where
+      module _ (out' : List ℕ) (end : ℕ) (q : PutField (fields_of xs) 55 first out out' end) (es' : length out' ≡ length out) where
+        pub line_done : (out'' : List ℕ) (r : ℕ) → Put (10 ∷ []) end out' out'' r → Lined letter xs out₀ out'' r
+        unfolding line_of
+        line_done out'' r t =
+            let w = put_both (put_both p q.put) t in
+            lined letter xs out₀ out'' (line_of letter xs) r (line_whole letter xs (length out₀) most room) (w.left ∙ rw zero-add refl) (w.ends ∙ zero-add _) (omega (arith, p.ends, q.small, t.ends))

@@ -16,37 +16,16 @@ digits_in (suc k) n = pick (ltb n 10) (digit n ∷ []) (digits_in k (n / 10) ++ 
 unfoldable pub decimal : ℕ → List ℕ
 decimal n = digits_in n n
 
-unfoldable pub decimals : List ℕ → List (List ℕ)
-decimals [] = []
-decimals (x ∷ xs) = decimal x ∷ decimals xs
-
--- ---- a number as "six upper-case hex digits"
-
--- the digits 30h to 39h, then 41h to 46h
-unfoldable pub hex_digit : ℕ → ℕ
-hex_digit d = pick (ltb d 10) (0x30 + d) (0x37 + d)
-
--- the highest first
-unfoldable pub hex : ℕ → List ℕ
-hex n =
-    hex_digit (n / 1048576 % 16)
-    ∷ hex_digit (n / 65536 % 16)
-    ∷ hex_digit (n / 4096 % 16)
-    ∷ hex_digit (n / 256 % 16)
-    ∷ hex_digit (n / 16 % 16)
-    ∷ hex_digit (n % 16)
-    ∷ []
-
 -- ---- a line
 
 -- each field behind a tab
-unfoldable pub fields_of : List (List ℕ) → List ℕ
+unfoldable pub fields_of : List ℕ → List ℕ
 fields_of [] = []
-fields_of (field ∷ fields) = (0x09 ∷ field) ++ fields_of fields
+fields_of (x ∷ xs) = (0x09 ∷ decimal x) ++ fields_of xs
 
 -- a letter, the fields, a newline
-unfoldable pub line_of : ℕ → List (List ℕ) → List ℕ
-line_of letter fields = (letter ∷ fields_of fields) ++ (0x0A ∷ [])
+unfoldable pub line_of : ℕ → List ℕ → List ℕ
+line_of letter xs = (letter ∷ fields_of xs) ++ (0x0A ∷ [])
 
 -- ---- what the functions ask and say
 
@@ -67,17 +46,17 @@ pub record FieldsAsked (xs out : List ℕ) (at : ℕ) : Type 0 where
 
 -- the loop over the fields: i of them stand from `at` on, up to `end`
 pub record Fielding (xs : List ℕ) (at : ℕ) (out₀ out : List ℕ) (end i : ℕ) : Type 0 where
-  pub put : Put (fields_of (decimals (take i xs))) at out₀ out end
+  pub put : Put (fields_of (take i xs)) at out₀ out end
   pub size : length out ≡ length out₀
   pub small : end ≤ at + 11 * i
   pub turns : i ≤ length xs
 
--- the line of numbers in decimal and the fields behind them, or nothing where the numbers are more than five or there are less than 64 bytes of room
-unfoldable pub line_in : ℕ → List ℕ → List (List ℕ) → ℕ → List ℕ
-line_in letter xs behind size = pick (leb (length xs) 5 && leb 64 size) (line_of letter (decimals xs ++ behind)) []
+-- the line, or nothing where it has more than five fields or less than 64 bytes of room
+unfoldable pub line_in : ℕ → List ℕ → ℕ → List ℕ
+line_in letter xs size = pick (leb (length xs) 5 && leb 64 size) (line_of letter xs) []
 
 -- the line stands at the start, and behind it all is as it was
-pub record Lined (letter : ℕ) (xs : List ℕ) (behind : List (List ℕ)) (out out' : List ℕ) (r : ℕ) : Type 0 where
-  pub left : out' ≡ line_in letter xs behind (length out) ++ drop (length (line_in letter xs behind (length out))) out
-  pub count : r ≡ length (line_in letter xs behind (length out))
+pub record Lined (letter : ℕ) (xs out out' : List ℕ) (r : ℕ) : Type 0 where
+  pub left : out' ≡ line_in letter xs (length out) ++ drop (length (line_in letter xs (length out))) out
+  pub count : r ≡ length (line_in letter xs (length out))
   pub small : r ≤ 64

@@ -1,6 +1,6 @@
-// A line of fields as bytes: a letter, each field behind a tab, and a newline. A field is a number in decimal or as six hex digits.
-ghost use Rattle.std.specs.Prelude.{◌≡◌, [], ◌∷◌, ◌+◌, ◌%◌, ◌≤◌, ◌<◌, length};
-ghost use Rattle.text.specs.Lines.{decimal, decimals, hex_digit, hex, fields_of, Put, PutField, FieldsAsked, Lined};
+// A line of fields as bytes: a letter, each field in decimal behind a tab, and a newline.
+ghost use Rattle.std.specs.Prelude.{◌≡◌, [], ◌∷◌, ◌+◌, ◌≤◌, ◌<◌, length};
+ghost use Rattle.text.specs.Lines.{decimal, fields_of, Put, PutField, FieldsAsked, Lined};
 
 // One byte at `at`, and where it ends.
 fn put_byte(byte: u8, out: &mut [u8], at: usize) -> usize
@@ -45,7 +45,7 @@ fn put_field(x: u32, out: &mut [u8], at: usize) -> usize
 
 fn put_fields(fields: &[u32], out: &mut [u8], at: usize) -> usize
     requires { FieldsAsked fields.now out.old at }
-    ensures { PutField (fields_of (decimals fields.now)) 55 at out.old out.new result }
+    ensures { PutField (fields_of fields.now) 55 at out.old out.new result }
 {
     let mut end = at;
     let mut i: usize = 0;
@@ -56,44 +56,10 @@ fn put_fields(fields: &[u32], out: &mut [u8], at: usize) -> usize
     end
 }
 
-// A digit of a number in base 16, in upper case.
-fn hex_digit(d: u32) -> u8
-    ensures { result ≡ hex_digit (d % 16) }
-{
-    let low = (d % 16) as u8;
-    if low < 10 { 48 + low } else { 55 + low }
-}
-
-// A tab, and a number as six hex digits.
-fn put_hex(x: u32, out: &mut [u8], at: usize) -> usize
-    requires { at + 7 ≤ length out.old }
-    ensures { PutField (9 ∷ hex x) 7 at out.old out.new result }
-{
-    let field = [
-        b'\t',
-        hex_digit(x / 1048576),
-        hex_digit(x / 65536),
-        hex_digit(x / 4096),
-        hex_digit(x / 256),
-        hex_digit(x / 16),
-        hex_digit(x),
-    ];
-    put_bytes(&field, out, at)
-}
-
-// A letter and the fields, at the start of out.
-fn put_front(letter: u8, fields: &[u32], out: &mut [u8]) -> usize
-    requires { FieldsAsked fields.now out.old 1 }
-    ensures { PutField (letter ∷ fields_of (decimals fields.now)) 56 0 out.old out.new result }
-{
-    let first = put_byte(letter, out, 0);
-    put_fields(fields, out, first)
-}
-
 // A line of at most five fields at the start of out, and its length. Out wants 64 bytes; where it has fewer, or the fields are
 // more, nothing is written.
 pub fn line(letter: u8, fields: &[u32], out: &mut [u8]) -> usize
-    ensures { Lined letter fields.now [] out.old out.new result }
+    ensures { Lined letter fields.now out.old out.new result }
 {
     if 5 < fields.len() {
         return 0;
@@ -101,21 +67,7 @@ pub fn line(letter: u8, fields: &[u32], out: &mut [u8]) -> usize
     if out.len() < 64 {
         return 0;
     }
-    let front = put_front(letter, fields, out);
-    put_byte(b'\n', out, front)
-}
-
-// The same with one field more, `last` as six hex digits.
-pub fn hex_line(letter: u8, fields: &[u32], last: u32, out: &mut [u8]) -> usize
-    ensures { Lined letter fields.now (hex last ∷ []) out.old out.new result }
-{
-    if 5 < fields.len() {
-        return 0;
-    }
-    if out.len() < 64 {
-        return 0;
-    }
-    let front = put_front(letter, fields, out);
-    let end = put_hex(last, out, front);
+    let first = put_byte(letter, out, 0);
+    let end = put_fields(fields, out, first);
     put_byte(b'\n', out, end)
 }

@@ -125,11 +125,11 @@ fn written(section: Section, channel: u32, dseq: u32, dbn: u32) {
     lines::end();
 }
 
-// A frame's survey with a list of so many numbers out of ten, each 7 before.
+// A frame's survey with a list of so many numbers out of eight, each 7 before.
 fn survey(system: u32, frame: &[u8], size: usize)
-    requires { size ≤ 10 }
+    requires { size ≤ 8 }
 {
-    let mut list = [7u32; 10];
+    let mut list = [7u32; 8];
     let s = surveys::survey(system, frame, &mut list[0..size]);
     lines::start(b"survey");
     lines::field(s.number);
@@ -139,7 +139,7 @@ fn survey(system: u32, frame: &[u8], size: usize)
 }
 
 fn survey_sequence(system: u32, channel: u32, sequence: u32, part: &[u8]) {
-    let mut list = [7u32; 10];
+    let mut list = [7u32; 8];
     let s = surveys::survey_sequence(system, channel, sequence, part, &mut list);
     lines::start(b"sequence");
     lines::field(s.number);
@@ -148,7 +148,7 @@ fn survey_sequence(system: u32, channel: u32, sequence: u32, part: &[u8]) {
     print_list(&list);
 }
 
-fn print_list(list: &[u32; 10]) {
+fn print_list(list: &[u32; 8]) {
     values::print_list(list);
     lines::end();
 }
@@ -173,15 +173,15 @@ fn cut(frame: &[u8], from: usize, to: usize) -> &[u8] {
 }
 
 fn surveys(frame: &[u8]) {
-    survey(0, frame, 10);
-    survey(2, frame, 9);
-    survey(0, frame, 5);
+    survey(0, frame, 8);
+    survey(2, frame, 7);
     survey(0, frame, 4);
+    survey(0, frame, 3);
     survey(0, frame, 0);
-    survey(4, cut(frame, 0, 3), 10);
-    survey(1, frame, 10);
-    survey(0, cut(frame, 0, 479999), 10);
-    survey(0, cut(frame, 0, 0), 10);
+    survey(4, cut(frame, 0, 3), 8);
+    survey(1, frame, 8);
+    survey(0, cut(frame, 0, 479999), 8);
+    survey(0, cut(frame, 0, 0), 8);
 }
 
 fn sequences(frame: &[u8]) {

@@ -133,7 +133,7 @@ fn print_left(numbers: &[i32], n: usize) {
 
 // System, bytes of the frame, how many numbers, length of the fault list.
 fn salvage(f: Fields, frame: &[u8], numbers: &mut [i32]) {
-    let mut list = [UNUSED; 40];
+    let mut list = [UNUSED; 32];
     values::fill_marks(numbers);
     let whole = some_bytes(frame, size(f.b));
     let s = fill(f.a, whole, numbers, size(f.c), &mut list, size(f.d));
@@ -150,7 +150,7 @@ fn seen(system: u32, whole: &[u8], list: &mut [u32], n: usize) -> Survey {
 
 // System, length of the fault list. The survey's answer and its list.
 fn survey(f: Fields, frame: &[u8]) {
-    let mut list = [UNUSED; 40];
+    let mut list = [UNUSED; 32];
     let whole = some_bytes(frame, values::size_of(f.a));
     let s = seen(f.a, whole, &mut list, size(f.b));
     print_found(s, &list, size(f.b));

@@ -13,32 +13,23 @@ add_if1 c = search rules
 returns : tie.Need-returns
 returns c = search (record_none, rules)
 
-sub_last : tie.Need-overflow-sub-last
-sub_last c = search rules
+add_line : tie.Need-overflow-add-line
+add_line c = search rules
 
-add_last : tie.Need-overflow-add-last
-add_last c = search rules
+mul_line : tie.Need-overflow-mul-line
+mul_line c = search rules
 
-mul_hex_line : tie.Need-overflow-mul-hex-line
-mul_hex_line c = search rules
+sub_line : tie.Need-overflow-sub-line
+sub_line c = search rules
 
-sub_hex_line : tie.Need-overflow-sub-hex-line
-sub_hex_line c = search rules
+part_line_start : tie.Need-slice-bounds-line-start
+part_line_start c = search rules
 
-part_hex_line_start : tie.Need-slice-bounds-hex-line-start
-part_hex_line_start c = search rules
+part_line_end : tie.Need-slice-bounds-line-end
+part_line_end c = search rules
 
-part_hex_line_end : tie.Need-slice-bounds-hex-line-end
-part_hex_line_end c = search rules
-
-mul_hex_line_2 : tie.Need-overflow-mul-hex-line-2
-mul_hex_line_2 c = search rules
-
-shared_slice_read_hex_line : tie.Need-shared-slice-read-hex-line
-shared_slice_read_hex_line c = search rules
-
-hex_line_requires : tie.Need-hex-line-requires
-hex_line_requires c κs = search rules
+line_requires : tie.Need-line-requires
+line_requires c κs = search rules
 
 same_length : tie.Need-same-length
 same_length c = search rules
@@ -53,14 +44,11 @@ record_line_spec =
     mul_at
     add_if1
     returns
-    sub_last
-    add_last
-    mul_hex_line
-    sub_hex_line
-    part_hex_line_start
-    part_hex_line_end
-    mul_hex_line_2
-    shared_slice_read_hex_line
-    hex_line_requires
+    add_line
+    mul_line
+    sub_line
+    part_line_start
+    part_line_end
+    line_requires
     same_length
     returns_2)

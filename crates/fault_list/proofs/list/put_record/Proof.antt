@@ -1,6 +1,4 @@
 -- `fault_list::list::put_record` meets its contract: the numbers in their order. Assumes nothing.
-use native.Mathlib.Omega.{arith}
-use lib.ListN.{length-set}
 use borrow.Author.Rules.{rules}
 use Rattle.rules_surveys.specs.Records.{numbers}
 use Rattle.fault_list.proofs.Noting.{record_stored}
@@ -19,9 +17,6 @@ slice_write_part_3 c = search rules
 slice_write_part_4 : tie.Need-slice-write-part-4
 slice_write_part_4 c = search rules
 
-slice_write_part_5 : tie.Need-slice-write-part-5
-slice_write_part_5 c = simp length-set (omega arith)
-
 same_length : tie.Need-same-length
 same_length c = search rules
 
@@ -37,6 +32,5 @@ put_record_spec =
     slice_write_part_2
     slice_write_part_3
     slice_write_part_4
-    slice_write_part_5
     same_length
     returns)

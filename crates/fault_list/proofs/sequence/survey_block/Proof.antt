@@ -6,17 +6,17 @@ use Rattle.fault_list.proofs.Noting.{bits_clean, fault_clean, fault_noted}
 use Rattle.fault_list.proofs.sequence.survey_block.Statement.{statement}
 use Rattle.fault_list.proofs.sequence.survey_block.Tie as tie
 
+read_block_requires : tie.Need-read-block-requires
+read_block_requires c κs = search rules
+
 judged_requires : tie.Need-judged-requires
 judged_requires c κs = search rules
 
 add_if1 : tie.Need-overflow-add-if1
-add_if1 c = omega (arith, bits_below c.before.before.before.requires.0)
+add_if1 c = omega (arith, bits_below c.before.before.before.before.requires.0)
 
 returns : tie.Need-returns
 returns c = search (bits_clean, rules)
-
-read_block_requires : tie.Need-read-block-requires
-read_block_requires c κs = search rules
 
 entry_of_requires : tie.Need-entry-of-requires
 entry_of_requires c κs = search rules
@@ -26,9 +26,6 @@ fault_of_requires c κs = search rules
 
 returns_2 : tie.Need-returns-2
 returns_2 c = search (fault_clean, rules)
-
-id_found_requires : tie.Need-id-found-requires
-id_found_requires c κs = search rules
 
 note_requires : tie.Need-note-requires
 note_requires c κs = search rules
@@ -43,14 +40,13 @@ pub survey_block_spec : {M : Type 1} → statement M
 survey_block_spec =
     tie.close
     (tie.spec
+    read_block_requires
     judged_requires
     add_if1
     returns
-    read_block_requires
     entry_of_requires
     fault_of_requires
     returns_2
-    id_found_requires
     note_requires
     same_length
     returns_3)
