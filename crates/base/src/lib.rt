@@ -1,4 +1,6 @@
 // What every crate above shares and no word of the format is in: definitions and laws of lists, and the smallest leaves.
+#![tactic(auto)]
+
 ghost use Rattle.std.specs.Prelude.{◌≡◌, length, get_or, replicate};
 ghost use Rattle.base.specs.Bytes.{Byte};
 

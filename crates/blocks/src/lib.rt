@@ -1,4 +1,6 @@
 // A block writer for each section. What does not fit a block is not written.
+#![tactic(auto)]
+
 mod audio;
 mod header;
 mod parts;

@@ -1,5 +1,7 @@
 // The face for C, declared in include/dv100.h: the library's calls under C's names. A slice passes as a pointer and a length,
 // an answer as a struct by value with its number first. Each call meets the contract of the library's own.
+#![tactic(auto)]
+
 mod ids;
 
 ghost use Rattle.rules_reads.specs.Audio.{AudioRead};

@@ -1,4 +1,6 @@
 // The fault of a block where it stands, and whether a sequence is one of the system's.
+#![tactic(auto)]
+
 ghost use Rattle.std.specs.Prelude.{◌≡◌, eqb};
 ghost use Rattle.rules_format.specs.Ids.{block_answer};
 ghost use Rattle.rules_format.specs.Faults.{misnamed, fault_of, fault_at};

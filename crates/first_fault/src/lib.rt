@@ -1,4 +1,6 @@
 // The first fault of a frame, which ends the search.
+#![tactic(auto)]
+
 mod sequence;
 
 ghost use Rattle.std.specs.Prelude.{◌≡◌, ◌*◌, length};

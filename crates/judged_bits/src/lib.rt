@@ -1,4 +1,6 @@
 // The judged bits of a block's ID as one number, and those that DIF channel and sequence give.
+#![tactic(auto)]
+
 ghost use Rattle.std.specs.Prelude.{◌≡◌, ◌%◌, ◌≤◌, length};
 ghost use Rattle.rules_format.specs.Judging.{key_of};
 ghost use Rattle.judged_bits.specs.Asked.{Word, JudgedBlock};

@@ -1,4 +1,6 @@
 // What is asked of the sequences of a frame. Past a frame's end there are zeros, so that every frame is judged.
+#![tactic(auto)]
+
 mod every;
 mod read;
 mod sequence;
@@ -9,7 +11,7 @@ use paper::Pack;
 pub use subcode::{group_first, settled, time_first};
 
 // What is asked of a sequence: a flag by its number, an audio channel, a count, a mode, the time code and the binary group.
-#[derive(Drop)]
+#[derive(Clone, Copy)]
 pub enum Test {
     Dsf,
     Vs,

@@ -1,4 +1,6 @@
 // The four systems, the 150 places and block IDs: what every crate above reads frames by.
+#![tactic(auto)]
+
 mod ids;
 mod parts;
 mod places;

@@ -1,4 +1,6 @@
 // Packs by value: what is written, and what is judged.
+#![tactic(auto)]
+
 mod aaux;
 mod bytes;
 mod frame;

@@ -1,7 +1,8 @@
 // The declared types of the format. This crate has no code: specs/ has document 01 in its own numbers and bytes.
+#![tactic(auto)]
 
 // The four systems: 1080/60/I, 1080/50/I, 720/60/P and 720/50/P.
-#[derive(Drop)]
+#[derive(Clone, Copy)]
 pub enum System {
     I60,
     I50,
@@ -10,21 +11,21 @@ pub enum System {
 }
 
 // What a system's number says. A number above 3 is no system.
-#[derive(Drop)]
+#[derive(Clone, Copy)]
 pub enum SystemNumber {
     Known(System),
     NoSystem,
 }
 
 // The sample counts of a system: two at 60 Hz, one at 50 Hz, where both fields have it.
-#[derive(Drop)]
+#[derive(Clone, Copy)]
 pub struct Counts {
     pub fewer: u32,
     pub more: u32,
 }
 
 // The five sections of a sequence.
-#[derive(Drop)]
+#[derive(Clone, Copy)]
 pub enum Section {
     Header,
     Subcode,
@@ -34,29 +35,29 @@ pub enum Section {
 }
 
 // A DBN: the number of a block in its section.
-#[derive(Drop)]
+#[derive(Clone, Copy)]
 pub struct BlockNumber(pub u32);
 
 // One of the 150 places of a sequence.
-#[derive(Drop)]
+#[derive(Clone, Copy)]
 pub struct Place(pub u32);
 
 // What stands at a place: a section, and a block's number in it.
-#[derive(Drop)]
+#[derive(Clone, Copy)]
 pub struct Entry {
     pub section: Section,
     pub number: BlockNumber,
 }
 
 // Where a section's block stands. A number past the section's blocks stands nowhere.
-#[derive(Drop)]
+#[derive(Clone, Copy)]
 pub enum Found {
     At(Place),
     Nowhere,
 }
 
 // What an ID names.
-#[derive(Drop)]
+#[derive(Clone, Copy)]
 pub struct BlockId {
     pub section: Section,
     pub channel: u32,
@@ -66,14 +67,14 @@ pub struct BlockId {
 
 // The spare bits of an ID, which name nothing: arbitrary are bits 3-0 of byte 0; reserved are bit 4 of byte 0, with weight 4, and
 // bits 1-0 of byte 1.
-#[derive(Drop)]
+#[derive(Clone, Copy)]
 pub struct Spare {
     pub arbitrary: u32,
     pub reserved: u32,
 }
 
 // The answer to an ID: a named block with the spare bits beside it, fault 11, or refusal 4.
-#[derive(Drop)]
+#[derive(Clone, Copy)]
 pub enum IdAnswer {
     Named(BlockId, Spare),
     Reserved,
@@ -82,7 +83,7 @@ pub enum IdAnswer {
 
 // The paper's number and values for an answer to an ID. This and the other answers that C is handed lie as C lays them.
 #[repr(C)]
-#[derive(Drop)]
+#[derive(Clone, Copy)]
 pub struct IdValues {
     pub number: u32,
     pub section: u32,
@@ -94,7 +95,7 @@ pub struct IdValues {
 }
 
 // A survey record: where a block stands that does not name its place, and its fault.
-#[derive(Drop)]
+#[derive(Clone, Copy)]
 pub struct Fault {
     pub channel: u32,
     pub sequence: u32,
@@ -104,7 +105,7 @@ pub struct Fault {
 
 // What a survey answers, and salvage.
 #[repr(C)]
-#[derive(Drop)]
+#[derive(Clone, Copy)]
 pub struct Survey {
     pub number: u32,
     pub total: u32,
@@ -113,7 +114,7 @@ pub struct Survey {
 
 // A part of a frame, by its first byte and its length.
 #[repr(C)]
-#[derive(Drop)]
+#[derive(Clone, Copy)]
 pub struct Part {
     pub number: u32,
     pub start: u32,
@@ -121,7 +122,7 @@ pub struct Part {
 }
 
 // A pack: its header PC0 and four bytes.
-#[derive(Drop)]
+#[derive(Clone, Copy)]
 pub struct Pack {
     pub pc0: u8,
     pub pc1: u8,
@@ -131,14 +132,14 @@ pub struct Pack {
 }
 
 // What the subcode of every sequence of a frame says.
-#[derive(Drop)]
+#[derive(Clone, Copy)]
 pub struct SubcodeData {
     pub time: Pack,
     pub group: Pack,
 }
 
 // What every sequence of a frame repeats: what its subcode says, VS and VSC, and the ASC.
-#[derive(Drop)]
+#[derive(Clone, Copy)]
 pub struct Repeated {
     pub subcode: SubcodeData,
     pub vs: Pack,
@@ -147,7 +148,7 @@ pub struct Repeated {
 }
 
 // What the pack of an SSYB is, by its position.
-#[derive(Drop)]
+#[derive(Clone, Copy)]
 pub enum SubcodePack {
     TimeCode,
     BinaryGroup,
@@ -155,21 +156,21 @@ pub enum SubcodePack {
 }
 
 // A sample is a level, or it is lost.
-#[derive(Drop)]
+#[derive(Clone, Copy)]
 pub enum Sample {
     Level(i16),
     Lost,
 }
 
 // What a number of a lent slice says. A number outside -32,768 to 32,768 is no sample.
-#[derive(Drop)]
+#[derive(Clone, Copy)]
 pub enum SampleNumber {
     Sampled(Sample),
     NoSample,
 }
 
 // A picture slot: a video block of a sequence of a DIF channel.
-#[derive(Drop)]
+#[derive(Clone, Copy)]
 pub struct Slot {
     pub channel: u32,
     pub sequence: u32,
@@ -177,14 +178,14 @@ pub struct Slot {
 }
 
 // What a slot carries: a macroblock by its number, or none.
-#[derive(Drop)]
+#[derive(Clone, Copy)]
 pub enum Carried {
     Macroblock(u32),
     Nothing,
 }
 
 // Where a macroblock lies. A number past the system's macroblocks lies in no slot.
-#[derive(Drop)]
+#[derive(Clone, Copy)]
 pub enum Carrier {
     In(Slot),
     NoSlot,
@@ -192,7 +193,7 @@ pub enum Carrier {
 
 // What an audio read answers.
 #[repr(C)]
-#[derive(Drop)]
+#[derive(Clone, Copy)]
 pub struct AudioAnswer {
     pub number: u32,
     pub count: u32,
@@ -200,7 +201,7 @@ pub struct AudioAnswer {
 
 // What a time code read answers: four bytes of time code and four of binary group.
 #[repr(C)]
-#[derive(Drop)]
+#[derive(Clone, Copy)]
 pub struct TimeAnswer {
     pub number: u32,
     pub time: [u8; 4],

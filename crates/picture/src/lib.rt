@@ -1,4 +1,6 @@
 // Picture slots: the macroblock of a slot, and the slot of a macroblock.
+#![tactic(auto)]
+
 ghost use Rattle.std.specs.Prelude.{◌≡◌, ◌<◌};
 ghost use Rattle.rules_picture.specs.Picture.{slot, step_of, column_of, macroblock, ten_carries, eleven_carries, carries_of, carried_in, unit_at, slot_at, ten_found};
 ghost use Rattle.rules_picture.specs.Picture.{eleven_found, carrier_of};

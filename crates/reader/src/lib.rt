@@ -1,4 +1,6 @@
 // The strict reader: what stands in a frame comes out exactly, or a numbered refusal says why not.
+#![tactic(auto)]
+
 mod audio;
 mod check;
 mod time;

@@ -1,4 +1,6 @@
 // The audio read's refusals.
+#![tactic(auto)]
+
 ghost use Rattle.std.specs.Prelude.{◌≡◌};
 ghost use Rattle.base.specs.Calls.{first_of};
 ghost use Rattle.rules_reads.specs.Audio.{as_agree, audio_rows, audio_number};

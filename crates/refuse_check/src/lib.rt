@@ -1,4 +1,6 @@
 // The frame check, which every strict read asks for itself.
+#![tactic(auto)]
+
 ghost use Rattle.std.specs.Prelude.{◌≡◌};
 ghost use Rattle.rules_reads.specs.Check.{Checked};
 ghost use Rattle.refuse_check.specs.Asked.{whole_number};

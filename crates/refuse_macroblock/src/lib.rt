@@ -1,4 +1,6 @@
 // The macroblock read's refusals.
+#![tactic(auto)]
+
 ghost use Rattle.std.specs.Prelude.{◌≡◌};
 ghost use Rattle.base.specs.Calls.{first_of};
 ghost use Rattle.rules_reads.specs.Macroblock.{picture_rows, MacroblockNumbered};

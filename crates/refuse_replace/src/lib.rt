@@ -1,4 +1,6 @@
 // The refusals of a new audio channel.
+#![tactic(auto)]
+
 ghost use Rattle.std.specs.Prelude.{◌≡◌};
 ghost use Rattle.base.specs.Calls.{first_of};
 ghost use Rattle.rules_replaces.specs.Replace.{replace_rows, replace_number};

@@ -1,4 +1,6 @@
 // What the writer is lent: its refusals in their order.
+#![tactic(auto)]
+
 ghost use Rattle.std.specs.Prelude.{◌≡◌};
 ghost use Rattle.rules_writes.specs.Write.{contents_of, lengths_fit, write_number};
 

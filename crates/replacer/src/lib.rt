@@ -1,4 +1,6 @@
 // A new audio channel in a finished frame: a refusal, or the new samples in their places.
+#![tactic(auto)]
+
 ghost use Rattle.std.specs.Prelude.{◌≡◌};
 ghost use Rattle.base.specs.Put.{put_at, turns};
 ghost use Rattle.rules_format.specs.Systems.{half_of};

@@ -1,4 +1,6 @@
 // What is printed of a survey, line by line: its records, then its totals; or its refusal alone.
+#![tactic(auto)]
+
 ghost use Rattle.report.specs.Printed.{record_line, totals_line, refusal_line, line_at, Printed, Texted};
 
 use fault_list::RECORD;

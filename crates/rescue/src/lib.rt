@@ -1,4 +1,6 @@
 // Salvage: every position of every audio channel, beside the fault list.
+#![tactic(auto)]
+
 mod call;
 mod half;
 

@@ -1,4 +1,6 @@
 // The words of an audio block, from the samples of its audio channel.
+#![tactic(auto)]
+
 ghost use Rattle.std.specs.Prelude.{◌≡◌, length};
 ghost use Rattle.base.specs.Pick.{pick};
 ghost use Rattle.rules_format.specs.Samples.{bytes_of};

@@ -1,4 +1,6 @@
 // The samples of one sequence, audio block by audio block.
+#![tactic(auto)]
+
 ghost use Rattle.std.specs.Prelude.{◌≡◌, ℕ, ◌+◌, ◌*◌, length};
 ghost use Rattle.base.specs.Pick.{pick};
 ghost use Rattle.rules_format.specs.Systems.{half_of};

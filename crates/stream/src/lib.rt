@@ -1,4 +1,6 @@
 // An input that comes refill by refill: how many bytes there were, the system of its rate, and the survey of its whole sequences.
+#![tactic(auto)]
+
 ghost use Rattle.std.specs.Prelude.{◌≡◌, ◌+◌, min, length};
 ghost use Rattle.stream.specs.Input.{counted_to, of_rate, nothing, system_after, Next, Refilled};
 
@@ -7,7 +9,7 @@ use paper::System;
 
 // What is known of the bytes so far: their count, up to COUNTED, the 1080 system of the first block's rate, the faults found,
 // and how many bytes the last refill gave.
-#[derive(Drop)]
+#[derive(Clone, Copy)]
 pub struct Reading {
     pub count: u32,
     pub system: System,

@@ -1,4 +1,6 @@
 // Surveys the frame on standard input, one sequence of 12,000 bytes at a time, and prints the first 64 faults and the totals.
+#![tactic(auto)]
+
 ghost use Rattle.std.specs.Prelude.{◌≡◌, length};
 ghost use Rattle.survey.specs.Program.{Ended, Said, Rooms, Surveyed};
 

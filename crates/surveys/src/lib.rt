@@ -1,4 +1,6 @@
 // Which blocks do not name their place: the survey of a frame and of a sequence.
+#![tactic(auto)]
+
 mod frame;
 mod sequence;
 

@@ -1,4 +1,6 @@
 // A line of fields as bytes: a letter, each field in decimal behind a tab, and a newline.
+#![tactic(auto)]
+
 ghost use Rattle.std.specs.Prelude.{◌≡◌, [], ◌∷◌, ◌+◌, ◌≤◌, ◌<◌, length};
 ghost use Rattle.text.specs.Lines.{decimal, fields_of, Put, PutField, FieldsAsked, Lined};
 

@@ -1,5 +1,7 @@
 // Tries the public calls on good and bad input, and prints what each answers. The frame is all zeros: an ID of three zeros
 // is that of H0 of DIF channel 2, sequence 0, so that one block names its place and no other does.
+#![tactic(auto)]
+
 ghost use Rattle.std.specs.Prelude.{◌≤◌};
 
 use paper::{BlockId, BlockNumber, IdAnswer, Place, Section, System, SystemNumber};

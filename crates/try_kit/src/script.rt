@@ -3,7 +3,7 @@
 ghost use Rattle.std.specs.Prelude.{◌<◌, length};
 
 // The numbers of a line, in their order; 0 where there are fewer.
-#[derive(Drop)]
+#[derive(Clone, Copy)]
 pub struct Fields {
     pub a: u32,
     pub b: u32,
@@ -19,7 +19,7 @@ pub struct Fields {
     pub l: u32,
 }
 
-#[derive(Drop)]
+#[derive(Clone, Copy)]
 pub struct Line {
     pub letter: u8,
     pub name: usize,
@@ -28,7 +28,7 @@ pub struct Line {
 }
 
 // A word's number so far.
-#[derive(Drop)]
+#[derive(Clone, Copy)]
 struct Amount {
     hex: bool,
     value: u64,

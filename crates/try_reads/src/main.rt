@@ -2,6 +2,8 @@
 // and number, the numbers that check_frame, read_audio, macroblock_number and read_time answer, then the count, how many of the 15,553
 // lent numbers still hold their mark, the length of the macroblock's part and the eight bytes of time code and binary group. Numbers of
 // lent lists are printed 32,768 up: 0 is -32,768, 1 is -32,767 and 65,536 is lost.
+#![tactic(auto)]
+
 mod asks;
 mod changes;
 

@@ -1,5 +1,7 @@
 // Every row that the Recommendation's tables 22 to 24 print. A line: the table, the system, DIF channel, DIF sequence and
 // V number; where the slot carries a macroblock, h, i, j and k of its CM, and 1 if that macroblock lies in this slot.
+#![tactic(auto)]
+
 use paper::{BlockNumber, Carried, Carrier, System};
 use try_kit::lines;
 

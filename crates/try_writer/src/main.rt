@@ -1,6 +1,8 @@
 // Runs a script of writes: known frames of all four systems, and the writer on bad input. A line `sum` is a case, the answer and an
 // Adler checksum of the whole frame; `block` a written block's first bytes; `sample` a word of audio channel 1 at its known place;
 // `answer` a number and how many bytes of a frame of A5h are others afterwards.
+#![tactic(auto)]
+
 use paper::Place;
 use try_kit::script::{Fields, Line};
 use try_kit::{lines, script, values};

@@ -1,11 +1,13 @@
 // What is answered of an input that was read to its end: refusal 2, or the survey of the frame.
+#![tactic(auto)]
+
 ghost use Rattle.verdict.specs.Length.{Judged, Answered};
 
 use paper::{Survey, System};
 use stream::Reading;
 
 // The length of an input, for a frame of its system.
-#[derive(Drop)]
+#[derive(Clone, Copy)]
 pub enum FrameLength {
     Right,
     Wrong,

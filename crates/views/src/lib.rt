@@ -1,4 +1,6 @@
 // The view of one block: its number by one call, its bytes as a part of the frame by another, or where that part lies.
+#![tactic(auto)]
+
 ghost use Rattle.rules_surveys.specs.View.{ViewLies, ViewNumbered, Viewed};
 ghost use Rattle.views.specs.Asked.{InFrame, StartIs};
 

@@ -1,4 +1,6 @@
 // The writer: each block of the lent frame is filled where it stands, by its section's own writer.
+#![tactic(auto)]
+
 mod audio;
 mod call;
 mod frame;

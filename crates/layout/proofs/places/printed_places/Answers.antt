@@ -3,12 +3,8 @@ use mathlib.Core.Path.{refl}
 use Rattle.base.specs.Run.{run, tab}
 use Rattle.rules_format.specs.Places.{places, entry_at}
 use Rattle.rules_format.specs.Judging.{printed_places}
-use Rattle.layout.proofs.places.printed_places.Statement.{statement}
-use Rattle.layout.proofs.places.printed_places.Tie as tie
+use Rattle.layout.proofs.places.printed_places.Goals as goal
 
-returns : tie.Need-returns
+pub returns : goal.returns
 unfolding printed_places entry_at places run tab
 returns c = refl
-
-pub printed_places_spec : {M : Type 1} → statement M
-printed_places_spec = tie.close (tie.spec returns)
