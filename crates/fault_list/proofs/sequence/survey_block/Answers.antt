@@ -1,0 +1,18 @@
+-- `fault_list::sequence::survey_block` meets its contract: the judged bits are the place's, or the fault is 0, or it is noted. Assumes nothing.
+use native.Mathlib.Omega.{arith}
+use borrow.Author.Rules.{rules}
+use Rattle.judged_bits.proofs.Clear.{bits_below}
+use Rattle.fault_list.proofs.Noting.{bits_clean, fault_clean, fault_noted}
+use Rattle.fault_list.proofs.sequence.survey_block.Goals as goal
+
+pub overflow_add-printed : goal.overflow_add-printed
+overflow_add-printed c = omega (arith, bits_below c.requires.0)
+
+pub returns-then-judged-printed : goal.returns-then-judged-printed
+returns-then-judged-printed c = search (bits_clean, rules)
+
+pub returns-then-fault-eq0 : goal.returns-then-fault-eq0
+returns-then-fault-eq0 c = search (fault_clean, rules)
+
+pub returns : goal.returns
+returns c = search (fault_noted, rules)

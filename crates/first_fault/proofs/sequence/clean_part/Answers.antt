@@ -1,0 +1,21 @@
+-- `first_fault::sequence::clean_part` meets its contract: where the flag holds, no place below p has a fault. Assumes nothing.
+use Prim.Native.Nat.{◌-◌, ◌≤◌}
+use native.Mathlib.Omega.{arith}
+use borrow.Author.Rules.{rules}
+use Rattle.base.specs.Run.{run}
+use Rattle.rules_surveys.specs.FaultLists.{place_faults}
+use Rattle.judged_bits.proofs.Clear.{clean_start, bits_fit, clean_bits, clean_places}
+use Rattle.judged_bits.specs.Clean.{Clean}
+use Rattle.first_fault.proofs.sequence.clean_part.Goals as goal
+
+pub loop-p-init : goal.loop-p-init
+loop-p-init c = (clean_start _, omega arith)
+
+pub overflow_add-good : goal.overflow_add-good
+overflow_add-good c = search (bits_fit, rules)
+
+pub loop-p-preserved : goal.loop-p-preserved
+loop-p-preserved c = (search (clean_bits, rules), omega arith)
+
+pub returns : goal.returns
+returns c = search (clean_places, rules)

@@ -1,0 +1,18 @@
+-- `judges::every::every_from` meets its contract: the loop has judged the sequences below q + r. Assumes nothing.
+use mathlib.Core.Path.{◌≡◌}
+use Prim.Native.Nat.{◌-◌, ◌≤◌}
+use native.Mathlib.Omega.{arith}
+use borrow.Author.Rules.{rules}
+use Rattle.rules_reads.specs.Check.{every_from}
+use Rattle.judges.specs.Tests.{test_of}
+use Rattle.judges.proofs.Turns.{from_turn, from_done, start_holds}
+use Rattle.judges.proofs.every.every_from.Goals as goal
+
+pub loop-r-init : goal.loop-r-init
+loop-r-init c = (start_holds _ _ _ _ _, omega arith)
+
+pub loop-r-preserved : goal.loop-r-preserved
+loop-r-preserved c = (search (from_turn, rules), omega arith)
+
+pub returns : goal.returns
+returns c = search (from_done, rules)
