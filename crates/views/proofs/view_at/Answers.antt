@@ -15,6 +15,9 @@ returns-then-out c = search (view_outside, rules)
 pub block_start-at-requires : goal.block_start-at-requires
 block_start-at-requires c = search (view_in, rules)
 
+pub slice_bounds-fault_at-end : goal.slice_bounds-fault_at-end
+slice_bounds-fault_at-end c = search (view_within, rules)
+
 pub returns-then-fault-ne0 : goal.returns-then-fault-ne0
 returns-then-fault-ne0 c = search (view_faulty, rules)
 

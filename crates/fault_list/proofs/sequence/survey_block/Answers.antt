@@ -6,7 +6,7 @@ use Rattle.fault_list.proofs.Noting.{bits_clean, fault_clean, fault_noted}
 use Rattle.fault_list.proofs.sequence.survey_block.Goals as goal
 
 pub overflow_add-printed : goal.overflow_add-printed
-overflow_add-printed c = omega (arith, bits_below c.requires.0)
+overflow_add-printed c = omega (arith, bits_below c.requires.block_asked)
 
 pub returns-then-judged-printed : goal.returns-then-judged-printed
 returns-then-judged-printed c = search (bits_clean, rules)
