@@ -9,31 +9,26 @@ use Rattle.sequence_samples.specs.Taken.{held_word, Placed}
 use Rattle.sequence_samples.proofs.Ways.{word_placed, word_room}
 use Rattle.sequence_samples.proofs.Between.{placed_none, placed_end}
 use Rattle.sequence_samples.proofs.put_words.Goals as goal
-use Rattle.sequence_samples.proofs.put_words.Goals.{In-loop-t}
-
--- in a turn the word is one of the 36
-room : (c : In-loop-t) → c.loop-t.w < 36
-room c = word_room c.requires c.loop-t.invariant.0 c.loop-t.invariant.1 c.loop-t-test.true
 
 pub loop-t-init : goal.loop-t-init
 loop-t-init c = (placed_none _ _ _ _, omega arith, omega arith)
 
 pub bounds-block-w : goal.bounds-block-w
-bounds-block-w c = omega (arith, room c.before)
+bounds-block-w c = omega (arith, word_room c.requires c.loop-t.invariant.0 c.loop-t.invariant.1 c.loop-t-test.true)
 
 pub bounds-block-w-in-loop-t : goal.bounds-block-w-in-loop-t
-bounds-block-w-in-loop-t c = omega (arith, room c.before.before)
+bounds-block-w-in-loop-t c = omega (arith, word_room c.requires c.loop-t.invariant.0 c.loop-t.invariant.1 c.loop-t-test.true)
 
 pub loop-t-smaller : goal.loop-t-smaller
-loop-t-smaller c = omega (arith, room c.before.before.before.before.before)
+loop-t-smaller c = omega (arith, word_room c.requires c.loop-t.invariant.0 c.loop-t.invariant.1 c.loop-t-test.true)
 
 pub loop-t-preserved : goal.loop-t-preserved
 loop-t-preserved c =
-    let turn = c.before.before.before.before.before in (
-      word_placed _ _ _ _ _ _ _ _ _ _ _ _ turn.before.before.before.requires turn.before.loop.invariant.0 turn.before.loop.invariant.1 turn.loop-test.true
-          c.sample_of.ensures c.or_lost.ensures (to_z-of_z w32 _ (sfits_of c.number_of_lem.type_inv) ∙ c.number_of_lem.ensures),
+    (
+      word_placed _ _ _ _ _ _ _ _ _ _ _ _ c.requires c.loop-t.invariant.0 c.loop-t.invariant.1 c.loop-t-test.true
+          c.sample_of.ensures c.or_lost.ensures (to_z-of_z w32 _ (sfits_of c.number_of-x.type_inv) ∙ c.number_of-x.ensures),
       omega arith,
-      omega (arith, room turn),
+      omega (arith, word_room c.requires c.loop-t.invariant.0 c.loop-t.invariant.1 c.loop-t-test.true),
     )
 
 pub returns : goal.returns
