@@ -1,0 +1,30 @@
+-- `rescue::half::salvage_half` meets its contract: of the sequences below rank r the samples are taken and the faults noted. Assumes nothing.
+use Prim.Native.Nat.{◌+◌, ◌-◌, ◌*◌, ◌≤◌}
+use native.Mathlib.Omega.{arith}
+use borrow.Author.Rules.{rules}
+use Rattle.base.specs.Run.{run}
+use Rattle.rules_format.specs.Systems.{half_of}
+use Rattle.rules_surveys.specs.Noting.{Noted}
+use Rattle.rules_surveys.proofs.Records.{noted_start, noted_turn, noted_length}
+use Rattle.sequence_samples.specs.Taken.{Between}
+use Rattle.rescue.specs.Taken.{held_sample, rank_faults}
+use Rattle.rescue.proofs.Halving.{rank_asked, rank_few, half_none, half_turn, half_salvaged}
+use Rattle.rescue.proofs.half.salvage_half.Goals as goal
+
+pub loop-r-init : goal.loop-r-init
+loop-r-init c = (half_none _ _ _, noted_start _ _ _, omega arith)
+
+pub survey_rank-total-requires : goal.survey_rank-total-requires
+survey_rank-total-requires c = search (rank_asked, rank_few, rules)
+
+pub take_rank-requires : goal.take_rank-requires
+take_rank-requires c = search (rank_asked, rules)
+
+pub loop-r-preserved : goal.loop-r-preserved
+loop-r-preserved c = (search (half_turn, rules), search (noted_turn, rules), omega arith)
+
+pub shape_of-list : goal.shape_of-list
+shape_of-list c = search (noted_length, rules)
+
+pub returns : goal.returns
+returns c = search (half_salvaged, rules)

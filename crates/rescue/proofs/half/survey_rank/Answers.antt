@@ -1,0 +1,7 @@
+-- `rescue::half::survey_rank` meets its contract: it is a sequence of the frame. Assumes nothing.
+use borrow.Author.Rules.{rules}
+use Rattle.rescue.proofs.Halving.{rank_noted}
+use Rattle.rescue.proofs.half.survey_rank.Goals as goal
+
+pub returns : goal.returns
+returns c = search (rank_noted, rules)
