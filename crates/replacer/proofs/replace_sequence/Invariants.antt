@@ -1,0 +1,17 @@
+-- `replacer::replace_sequence` meets its contract: the first blocks are done. Assumes nothing.
+use mathlib.Core.Path.{◌≡◌, refl, sym}
+use Prim.Native.Nat.{◌-◌, ◌≤◌}
+use native.Mathlib.Omega.{arith}
+use lib.ListN.{length}
+use borrow.Author.Rules.{rules}
+use Rattle.base.specs.Put.{turns}
+use Rattle.base.proofs.Puts.{turns_none, turns_all}
+use Rattle.replacer.specs.Turns.{block_turn}
+use Rattle.replacer.proofs.Ways.{block_fits, block_asked, block_turn_lem}
+use Rattle.replacer.proofs.replace_sequence.Given as goal
+
+abbrev pub invariant-loop-a : goal.invariant-loop-a
+invariant-loop-a l = (l.part ≡ turns (block_turn l.y l.samples l.r) l.a l.initial.part) × (length l.part ≡ length l.initial.part) × (l.a ≤ 9)
+
+abbrev pub decreases-loop-a : goal.decreases-loop-a
+decreases-loop-a l = 9 - l.a

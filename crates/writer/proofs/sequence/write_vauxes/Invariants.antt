@@ -1,0 +1,18 @@
+-- `writer::sequence::write_vauxes` meets its contract: the first blocks are written, and the rest is as it was. Assumes nothing.
+use mathlib.Core.Path.{◌≡◌, refl}
+use Prim.Native.Nat.{◌-◌, ◌≤◌}
+use native.Mathlib.Omega.{arith}
+use lib.ListN.{length}
+use borrow.Author.Rules.{rules}
+use Rattle.base.proofs.Filling.{Filled, filled_none}
+use Rattle.paper.specs.declared.Section.TheVariants.{Vaux}
+use Rattle.rules_packs.specs.Vaux.{vaux_bytes}
+use Rattle.writer.specs.Blocks.{section_block}
+use Rattle.writer.proofs.Whole.{vauxes_turn, vauxes_done}
+use Rattle.writer.proofs.sequence.write_vauxes.Given as goal
+
+abbrev pub invariant-loop-k : goal.invariant-loop-k
+invariant-loop-k l = Filled 80 (section_block l.h l.q Vaux (vaux_bytes l.vs l.vsc l.q)) l.k l.initial.part l.part × (length l.part ≡ length l.initial.part) × (l.k ≤ 3)
+
+abbrev pub decreases-loop-k : goal.decreases-loop-k
+decreases-loop-k l = 3 - l.k
