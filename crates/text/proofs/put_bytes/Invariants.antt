@@ -1,0 +1,15 @@
+-- `text::put_bytes` meets its contract: the first i bytes are copied. Assumes nothing.
+use mathlib.Core.Path.{◌≡◌, refl}
+use Prim.Native.Nat.{◌-◌, ◌≤◌}
+use native.Mathlib.Omega.{arith}
+use lib.ListN.{length}
+use lib.Seq.{paste, paste-zero}
+use borrow.Author.Rules.{rules}
+use Rattle.text.proofs.Writing.{bytes_turn, bytes_done}
+use Rattle.text.proofs.put_bytes.Given as goal
+
+abbrev pub invariant-loop-i : goal.invariant-loop-i
+invariant-loop-i l = (l.out ≡ paste l.initial.out l.at l.src l.i) × ((l.i ≤ length l.src) × (length l.out ≡ length l.initial.out))
+
+abbrev pub decreases-loop-i : goal.decreases-loop-i
+decreases-loop-i l = length l.src - l.i
