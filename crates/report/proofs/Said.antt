@@ -36,7 +36,7 @@ abbrev line_of_record : List ℕ → ℕ → List ℕ
 line_of_record list i = line_of 0x46 (take width (drop (width * i) list))
 
 records_text : (fs : List Fault) (rest : List ℕ) → run (line_of_record (flat fs ++ rest)) (length fs) ≡ fault_lines fs
-unfolding run flat fault_lines
+unfolding run flat fault_lines numbers
 records_text [] rest = refl
 records_text (f ∷ fs) rest =
     let later = flat fs ++ rest in
