@@ -3,7 +3,7 @@ use mathlib.Core.Path.{◌≡◌, refl, ap}
 use mathlib.Core.Bool.{true, false}
 use mathlib.Core.List.{List, ◌++◌}
 use mathlib.Core.Logic.{◌⊎◌, inl, inr}
-use Prim.Native.Nat.{ℕ, ◌+◌, ◌≤◌, ◌<◌}
+use Prim.Native.Nat.{ℕ, ◌≤◌, ◌<◌}
 use native.Mathlib.Omega.{arith}
 use lib.ListN.{length, take}
 use lib.Seq.{length-take-le}
@@ -20,7 +20,6 @@ use Rattle.paper.specs.declared.IdAnswer.TheVariants.{Named, Reserved, WrongLeng
 use Rattle.rules_format.specs.Places.{code_of, place, entry_at}
 use Rattle.rules_format.specs.Ids.{block_answer, id_bytes, id_at}
 use Rattle.rules_format.specs.Faults.{misnamed, fault_of, fault_at, NamesPlace, names}
-use Rattle.rules_format.specs.Stream.{named}
 use Rattle.rules_format.proofs.Places.{code_one, number_below}
 use Rattle.rules_format.proofs.Ids.{answer_written, answer_long}
 

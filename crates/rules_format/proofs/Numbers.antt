@@ -18,7 +18,6 @@ use Rattle.rules_format.specs.Systems.{sequences_of, half_of, positions_of, is_c
 use Rattle.rules_format.specs.Places.{code_of, section_of, place, places, entry_at}
 use Rattle.rules_format.specs.Blocks.{block_at, sequence_at, block_in}
 use Rattle.rules_format.specs.Samples.{number_of, in_range, word_at}
-use Rattle.rules_format.specs.Samples
 use Rattle.rules_format.specs.Sound.{dif_of, rank_of, sequence_of, sound_place, byte_of}
 use Rattle.rules_format.specs.Faults.{names}
 use Rattle.rules_format.specs.Stream.{named}

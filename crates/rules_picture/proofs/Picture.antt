@@ -7,7 +7,6 @@ use lib.Dec.{T, eqb, ltb}
 use borrow.Author.Tests.{ltb-true, ltb-false, eqb-true, lt-ltb, le-ltb, eq-eqb, ne_eqb, not-true, not-false}
 use Rattle.base.specs.Pick.{pick}
 use Rattle.base.specs.Calls.{ExactlyOne}
-use Rattle.base.specs.Below.{below}
 use Rattle.base.proofs.Cases.{by_lt}
 use Rattle.base.proofs.Picks.{pick_true, pick_false, pick_either, both_held}
 use Rattle.paper.specs.declared.System.{System}

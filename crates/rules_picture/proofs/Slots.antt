@@ -1,6 +1,6 @@
 -- The workshop of this crate's headline: the picture slots in document 01's own numbers. Assumes nothing.
 use mathlib.Core.Path.{◌≡◌, refl, sym, ap, ◌∙◌}
-use mathlib.Core.List.{List, [], ◌∷◌}
+use mathlib.Core.List.{[], ◌∷◌}
 use Prim.Native.Nat.{ℕ, ◌+◌, ◌*◌, ◌/◌, ◌%◌, ◌<◌}
 use native.Mathlib.Omega.{arith}
 use borrow.Author.Tests.{lt-ltb}
@@ -13,9 +13,7 @@ use Rattle.paper.specs.declared.System.TheVariants.{I60, I50, P60, P50}
 use Rattle.paper.specs.declared.SystemNumber.TheVariants.{Known}
 use Rattle.paper.specs.declared.Carried.TheVariants.{Macroblock, Nothing}
 use Rattle.rules_format.specs.Systems.{sequences_of, system_of}
-use Rattle.rules_format.specs.Samples
 use Rattle.rules_picture.specs.Picture.{slot, ten_carries, eleven_carries, carried_in, within}
-use Rattle.paper.specs.Paper
 use Rattle.paper.specs.Paper.{ten_rows, eleven_rows, carried, macroblocks}
 use Rattle.rules_picture.specs.Slots.{SlotOf, SlotsInNumbers}
 use Rattle.rules_picture.proofs.Ruled.{within_there}

@@ -1,9 +1,7 @@
 -- `base::fill` meets its contract: the first i bytes are the value, and the rest is as it was. Assumes nothing.
-use mathlib.Core.Path.{◌≡◌, refl}
-use mathlib.Core.List.{◌++◌}
-use Prim.Native.Nat.{◌≤◌, ◌-◌}
+use mathlib.Core.Path.{refl}
 use native.Mathlib.Omega.{arith}
-use lib.ListN.{length, drop, replicate, length-set}
+use lib.ListN.{length-set}
 use Rattle.base.proofs.Filling.{fill_turn, fill_end}
 use Rattle.base.proofs.fill.Goals as goal
 

@@ -1,10 +1,7 @@
--- `base::fill` meets its contract: the first i bytes are the value, and the rest is as it was. Assumes nothing.
-use mathlib.Core.Path.{◌≡◌, refl}
+use mathlib.Core.Path.{◌≡◌}
 use mathlib.Core.List.{◌++◌}
 use Prim.Native.Nat.{◌≤◌, ◌-◌}
-use native.Mathlib.Omega.{arith}
-use lib.ListN.{length, drop, replicate, length-set}
-use Rattle.base.proofs.Filling.{fill_turn, fill_end}
+use lib.ListN.{length, drop, replicate}
 use Rattle.base.proofs.fill.Given as goal
 
 abbrev pub invariant-loop-i : goal.invariant-loop-i

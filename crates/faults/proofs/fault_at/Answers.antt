@@ -1,6 +1,5 @@
 -- `faults::fault_at` meets its contract: by the ID's answer and the place's entry. Assumes nothing.
 use mathlib.Core.Path.{refl, ◌∙◌}
-use borrow.Author.Rules.{rules}
 use Rattle.rules_format.specs.Faults.{fault_at}
 use Rattle.faults.proofs.fault_at.Goals as goal
 

@@ -1,6 +1,5 @@
 -- `faults::fault_of` meets its contract: answer by answer. Assumes nothing.
 use mathlib.Core.Path.{refl}
-use borrow.Author.Rules.{rules}
 use Rattle.rules_format.specs.Faults.{fault_of}
 use Rattle.faults.proofs.fault_of.Goals as goal
 

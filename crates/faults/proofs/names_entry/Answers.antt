@@ -1,6 +1,5 @@
 -- `faults::names_entry` meets its contract: its fault is 0. Assumes nothing.
 use mathlib.Core.Path.{refl}
-use borrow.Author.Rules.{rules}
 use Rattle.faults.proofs.names_entry.Goals as goal
 
 pub returns : goal.returns

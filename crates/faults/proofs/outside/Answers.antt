@@ -1,6 +1,5 @@
 -- `faults::outside` meets its contract: by the system's sequences. Assumes nothing.
 use mathlib.Core.Path.{refl}
-use borrow.Author.Rules.{rules}
 use Rattle.faults.proofs.outside.Goals as goal
 
 pub returns : goal.returns

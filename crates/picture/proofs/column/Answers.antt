@@ -1,7 +1,6 @@
 -- `picture::column` meets its contract: number by number. Assumes nothing.
 use mathlib.Core.Path.{◌≡◌, refl}
 use native.Mathlib.Omega.{arith}
-use borrow.Author.Rules.{rules}
 use Rattle.picture.proofs.column.Goals as goal
 
 pub returns-in_default : goal.returns-in_default

@@ -1,6 +1,5 @@
 -- `picture::eleven_rows` meets its contract: system by system. Assumes nothing.
 use mathlib.Core.Path.{refl}
-use borrow.Author.Rules.{rules}
 use Rattle.base.specs.Pick.{pick}
 use Rattle.picture.proofs.eleven_rows.Goals as goal
 

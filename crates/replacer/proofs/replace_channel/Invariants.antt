@@ -1,14 +1,9 @@
--- `replacer::replace_channel` meets its contract: the first sequences are done. Assumes nothing.
-use mathlib.Core.Path.{◌≡◌, refl, sym}
+use mathlib.Core.Path.{◌≡◌}
 use Prim.Native.Nat.{◌-◌, ◌≤◌}
-use native.Mathlib.Omega.{arith}
 use lib.ListN.{length}
-use borrow.Author.Rules.{rules}
 use Rattle.base.specs.Put.{turns}
-use Rattle.base.proofs.Puts.{turns_none}
 use Rattle.rules_format.specs.Systems.{half_of}
 use Rattle.replacer.specs.Turns.{rank_turn}
-use Rattle.replacer.proofs.Ways.{rank_asked, part_fits, end_fits, part_asked, rank_turn_lem, ranks_done}
 use Rattle.replacer.proofs.replace_channel.Given as goal
 
 abbrev pub invariant-loop-r : goal.invariant-loop-r

@@ -1,12 +1,9 @@
 -- `replacer::replace_sequence` meets its contract: the first blocks are done. Assumes nothing.
-use mathlib.Core.Path.{◌≡◌, refl, sym}
-use Prim.Native.Nat.{◌-◌, ◌≤◌}
+use mathlib.Core.Path.{refl, sym}
+use Prim.Native.Nat.{◌-◌}
 use native.Mathlib.Omega.{arith}
-use lib.ListN.{length}
 use borrow.Author.Rules.{rules}
-use Rattle.base.specs.Put.{turns}
 use Rattle.base.proofs.Puts.{turns_none, turns_all}
-use Rattle.replacer.specs.Turns.{block_turn}
 use Rattle.replacer.proofs.Ways.{block_fits, block_asked, block_turn_lem}
 use Rattle.replacer.proofs.replace_sequence.Goals as goal
 

@@ -1,8 +1,5 @@
--- `report::text` meets its contract: i lines stand behind each other. Assumes nothing.
 use Prim.Native.Nat.{◌-◌}
-use borrow.Author.Rules.{rules}
 use Rattle.report.specs.Printed.{Texting}
-use Rattle.report.proofs.Texts.{text_narrow, text_start, text_within, text_fits, text_turn, text_done}
 use Rattle.report.proofs.text.Given as goal
 
 abbrev pub invariant-loop-i : goal.invariant-loop-i

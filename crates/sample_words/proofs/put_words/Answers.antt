@@ -1,11 +1,9 @@
 -- `sample_words::put_words` meets its contract: the first words are written, and t is the next sample. Assumes nothing.
-use mathlib.Core.Path.{◌≡◌, refl}
-use Prim.Native.Nat.{◌+◌, ◌-◌, ◌*◌, ◌≤◌}
+use mathlib.Core.Path.{refl}
+use Prim.Native.Nat.{◌-◌}
 use native.Mathlib.Omega.{arith}
-use lib.ListN.{length}
 use borrow.Author.Rules.{rules}
-use Rattle.base.proofs.Filling.{Filled, filled_none}
-use Rattle.sample_words.specs.Words.{word_pair}
+use Rattle.base.proofs.Filling.{filled_none}
 use Rattle.sample_words.proofs.Ways.{sample_within, sample_next, sample_fits, word_for_below, word_put, last_put, last_past}
 use Rattle.sample_words.proofs.put_words.Goals as goal
 

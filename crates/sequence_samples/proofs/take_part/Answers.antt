@@ -1,10 +1,7 @@
 -- `sequence_samples::take_part` meets its contract: the samples of the audio blocks below a are taken. Assumes nothing.
-use Prim.Native.Nat.{◌+◌, ◌-◌, ◌*◌, ◌≤◌}
+use Prim.Native.Nat.{◌-◌}
 use native.Mathlib.Omega.{arith}
 use borrow.Author.Rules.{rules}
-use Rattle.rules_format.specs.Sound.{rank_at}
-use Rattle.rules_format.specs.Systems.{half_of}
-use Rattle.sequence_samples.specs.Taken.{held_part, Between}
 use Rattle.sequence_samples.proofs.Ways.{block_ends, block_asked, part_turn, part_done, part_none}
 use Rattle.sequence_samples.proofs.take_part.Goals as goal
 

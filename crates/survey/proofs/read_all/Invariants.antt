@@ -1,7 +1,4 @@
--- `survey::read_all` meets its contract: the loop has read whole sequences, and what is known is what they say. Assumes nothing.
-use borrow.Author.Rules.{rules}
 use Rattle.survey.specs.Program.{Going}
-use Rattle.survey.proofs.Reading.{going_start, going_done, going_ended, going_on}
 use Rattle.survey.proofs.read_all.Given as goal
 
 abbrev pub invariant-loop-left : goal.invariant-loop-left

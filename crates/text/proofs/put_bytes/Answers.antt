@@ -1,9 +1,8 @@
 -- `text::put_bytes` meets its contract: the first i bytes are copied. Assumes nothing.
-use mathlib.Core.Path.{◌≡◌, refl}
-use Prim.Native.Nat.{◌-◌, ◌≤◌}
+use mathlib.Core.Path.{refl}
+use Prim.Native.Nat.{◌-◌}
 use native.Mathlib.Omega.{arith}
-use lib.ListN.{length}
-use lib.Seq.{paste, paste-zero}
+use lib.Seq.{paste-zero}
 use borrow.Author.Rules.{rules}
 use Rattle.text.proofs.Writing.{bytes_turn, bytes_done}
 use Rattle.text.proofs.put_bytes.Goals as goal

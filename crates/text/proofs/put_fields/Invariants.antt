@@ -1,9 +1,6 @@
--- `text::put_fields` meets its contract: i fields stand behind each other. Assumes nothing.
 use Prim.Native.Nat.{◌-◌}
 use lib.ListN.{length}
-use borrow.Author.Rules.{rules}
 use Rattle.text.specs.Lines.{Fielding}
-use Rattle.text.proofs.Writing.{fields_start, fields_asks, fields_turn, fields_done}
 use Rattle.text.proofs.put_fields.Given as goal
 
 abbrev pub invariant-loop-i : goal.invariant-loop-i

@@ -1,7 +1,5 @@
 -- `try_reads::steps` is safe and ends. Assumes nothing.
-use mathlib.Core.Path.{◌≡◌}
 use Prim.Native.Nat.{◌-◌}
-use lib.ListN.{length}
 use Rattle.try_kit.proofs.Going.{further}
 use borrow.Author.Rules.{rules}
 use Rattle.try_reads.proofs.steps.Goals as goal

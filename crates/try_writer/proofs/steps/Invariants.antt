@@ -1,9 +1,6 @@
--- `try_writer::steps` is safe and ends. Assumes nothing.
 use mathlib.Core.Path.{◌≡◌}
 use Prim.Native.Nat.{◌-◌}
 use lib.ListN.{length}
-use Rattle.try_kit.proofs.Going.{further}
-use borrow.Author.Rules.{rules}
 use Rattle.try_writer.proofs.steps.Given as goal
 
 abbrev pub invariant-loop-at : goal.invariant-loop-at

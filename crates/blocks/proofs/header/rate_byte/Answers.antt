@@ -1,6 +1,5 @@
 -- `blocks::header::rate_byte` meets its contract: 0 for 60 Hz. Assumes nothing.
 use mathlib.Core.Path.{refl}
-use borrow.Author.Rules.{rules}
 use Rattle.blocks.proofs.header.rate_byte.Goals as goal
 
 pub returns-in-I60 : goal.returns-in-I60

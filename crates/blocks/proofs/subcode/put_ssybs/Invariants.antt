@@ -1,11 +1,8 @@
--- `blocks::subcode::put_ssybs` meets its contract: the first SSYBs are written, and the rest is as it was. Assumes nothing.
-use mathlib.Core.Path.{◌≡◌, refl}
+use mathlib.Core.Path.{◌≡◌}
 use Prim.Native.Nat.{◌-◌, ◌≤◌}
-use native.Mathlib.Omega.{arith}
 use lib.ListN.{length}
-use borrow.Author.Rules.{rules}
-use Rattle.base.proofs.Filling.{Filled, filled_none}
-use Rattle.blocks.proofs.Ways.{ssyb_at, ssybs_turn, ssybs_done}
+use Rattle.base.proofs.Filling.{Filled}
+use Rattle.blocks.proofs.Ways.{ssyb_at}
 use Rattle.blocks.proofs.subcode.put_ssybs.Given as goal
 
 abbrev pub invariant-loop-j : goal.invariant-loop-j

@@ -1,11 +1,10 @@
 -- `blocks::vaux::put_packs` meets its contract: the first packs are written, and the rest is as it was. Assumes nothing.
-use mathlib.Core.Path.{◌≡◌, refl}
-use Prim.Native.Nat.{◌-◌, ◌≤◌}
+use mathlib.Core.Path.{refl}
+use Prim.Native.Nat.{◌-◌}
 use native.Mathlib.Omega.{arith}
-use lib.ListN.{length}
 use borrow.Author.Rules.{rules}
-use Rattle.base.proofs.Filling.{Filled, filled_none}
-use Rattle.blocks.proofs.Ways.{pack_at, packs_turn, packs_done}
+use Rattle.base.proofs.Filling.{filled_none}
+use Rattle.blocks.proofs.Ways.{packs_turn, packs_done}
 use Rattle.blocks.proofs.vaux.put_packs.Goals as goal
 
 pub loop-j-init : goal.loop-j-init

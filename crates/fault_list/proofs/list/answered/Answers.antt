@@ -1,6 +1,5 @@
 -- `fault_list::list::answered` meets its contract: by what is kept. Assumes nothing.
 use mathlib.Core.Path.{refl}
-use borrow.Author.Rules.{rules}
 use Rattle.fault_list.proofs.list.answered.Goals as goal
 
 pub returns : goal.returns

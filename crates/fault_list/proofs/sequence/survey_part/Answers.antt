@@ -1,10 +1,7 @@
 -- `fault_list::sequence::survey_part` meets its contract: the loop has noted the faults of the places below p. Assumes nothing.
-use Prim.Native.Nat.{◌-◌, ◌≤◌}
+use Prim.Native.Nat.{◌-◌}
 use native.Mathlib.Omega.{arith}
 use borrow.Author.Rules.{rules}
-use Rattle.base.specs.Run.{run}
-use Rattle.rules_surveys.specs.FaultLists.{place_faults}
-use Rattle.rules_surveys.specs.Noting.{Noted}
 use Rattle.rules_surveys.proofs.Records.{noted_start, noted_length}
 use Rattle.judged_bits.proofs.Clear.{place_asked}
 use Rattle.fault_list.proofs.Noting.{block_few, place_turn, places_done}

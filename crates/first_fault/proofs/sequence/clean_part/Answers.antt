@@ -1,11 +1,8 @@
 -- `first_fault::sequence::clean_part` meets its contract: where the flag holds, no place below p has a fault. Assumes nothing.
-use Prim.Native.Nat.{◌-◌, ◌≤◌}
+use Prim.Native.Nat.{◌-◌}
 use native.Mathlib.Omega.{arith}
 use borrow.Author.Rules.{rules}
-use Rattle.base.specs.Run.{run}
-use Rattle.rules_surveys.specs.FaultLists.{place_faults}
 use Rattle.judged_bits.proofs.Clear.{clean_start, bits_fit, clean_bits, clean_places}
-use Rattle.judged_bits.specs.Clean.{Clean}
 use Rattle.first_fault.proofs.sequence.clean_part.Goals as goal
 
 pub loop-p-init : goal.loop-p-init

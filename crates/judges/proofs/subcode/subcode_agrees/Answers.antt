@@ -1,11 +1,9 @@
 -- `judges::subcode::subcode_agrees` meets its contract: the loop has judged the SSYBs below k. Assumes nothing.
-use mathlib.Core.Path.{◌≡◌, refl}
-use Prim.Native.Nat.{◌-◌, ◌≤◌}
+use mathlib.Core.Path.{refl}
+use Prim.Native.Nat.{◌-◌}
 use native.Mathlib.Omega.{arith}
 use borrow.Author.Rules.{rules}
-use Rattle.base.specs.Below.{below}
-use Rattle.judges.specs.Asked.{sequence_from}
-use Rattle.judges.proofs.Turns.{agrees_at, ssyb_turn, ssyb_done}
+use Rattle.judges.proofs.Turns.{ssyb_turn, ssyb_done}
 use Rattle.judges.proofs.subcode.subcode_agrees.Goals as goal
 
 pub loop-k-init : goal.loop-k-init

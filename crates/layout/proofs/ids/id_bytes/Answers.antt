@@ -1,7 +1,6 @@
 -- `layout::ids::id_bytes` meets its contract: the bytes are the definition's, and fit since a section's number is below 5. Assumes nothing.
 use mathlib.Core.Path.{refl}
 use native.Mathlib.Omega.{arith}
-use borrow.Author.Rules.{rules}
 use Rattle.rules_format.specs.Ids.{id_bytes}
 use Rattle.rules_format.proofs.Places.{code_below}
 use Rattle.layout.proofs.ids.id_bytes.Goals as goal

@@ -1,6 +1,5 @@
 -- `layout::places::entry_of` meets its contract: by what the section is. Assumes nothing.
 use mathlib.Core.Path.{refl}
-use borrow.Author.Rules.{rules}
 use Rattle.rules_format.specs.Judging.{entry_of}
 use Rattle.layout.proofs.places.entry_of.Goals as goal
 

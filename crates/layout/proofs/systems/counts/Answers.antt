@@ -1,6 +1,5 @@
 -- `layout::systems::counts` meets its contract: system by system. Assumes nothing.
 use mathlib.Core.Path.{refl}
-use borrow.Author.Rules.{rules}
 use Rattle.layout.proofs.systems.counts.Goals as goal
 
 pub returns-in-I60 : goal.returns-in-I60

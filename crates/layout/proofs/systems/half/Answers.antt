@@ -1,6 +1,5 @@
 -- `layout::systems::half` meets its contract: n/2. Assumes nothing.
 use mathlib.Core.Path.{refl}
-use borrow.Author.Rules.{rules}
 use Rattle.rules_format.specs.Systems.{half_of}
 use Rattle.layout.proofs.systems.half.Goals as goal
 

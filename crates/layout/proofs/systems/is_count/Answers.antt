@@ -1,6 +1,5 @@
 -- `layout::systems::is_count` meets its contract: by the system's counts. Assumes nothing.
 use mathlib.Core.Path.{refl}
-use borrow.Author.Rules.{rules}
 use Rattle.layout.proofs.systems.is_count.Goals as goal
 
 pub returns : goal.returns

@@ -1,6 +1,5 @@
 -- `packs::bytes::pack_of` meets its contract: the header, then the bytes. Assumes nothing.
 use mathlib.Core.Path.{refl}
-use borrow.Author.Rules.{rules}
 use Rattle.packs.proofs.bytes.pack_of.Goals as goal
 
 pub returns : goal.returns

@@ -1,6 +1,5 @@
 -- `packs::time::last_frame` meets its contract: system by system. Assumes nothing.
 use mathlib.Core.Path.{refl}
-use borrow.Author.Rules.{rules}
 use Rattle.packs.proofs.time.last_frame.Goals as goal
 
 pub returns-in-I60 : goal.returns-in-I60

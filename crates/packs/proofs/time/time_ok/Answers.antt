@@ -1,6 +1,5 @@
 -- `packs::time::time_ok` meets its contract: by the clock. Assumes nothing.
 use mathlib.Core.Path.{refl}
-use borrow.Author.Rules.{rules}
 use Rattle.packs.proofs.time.time_ok.Goals as goal
 
 pub returns : goal.returns

@@ -1,14 +1,9 @@
 -- `rescue::call::salvage_all` meets its contract: the first audio channels are taken and their faults noted, and the rest is as it was. Assumes nothing.
-use mathlib.Core.Path.{◌≡◌, refl}
-use Prim.Native.Nat.{◌-◌, ◌≤◌}
+use mathlib.Core.Path.{refl}
+use Prim.Native.Nat.{◌-◌}
 use native.Mathlib.Omega.{arith}
-use lib.ListN.{length}
 use borrow.Author.Rules.{rules}
-use Rattle.base.specs.Run.{run}
-use Rattle.base.proofs.Filling.{Filled}
-use Rattle.rules_surveys.specs.Noting.{Noted}
 use Rattle.rules_surveys.proofs.Records.{noted_start, noted_length}
-use Rattle.rescue.specs.Taken.{half_samples, half_faults}
 use Rattle.rescue.proofs.Whole.{all_none, end_fits, start_fits, bytes_fit, half_within, half_room, half_filled, half_asked, half_noted, all_salvaged}
 use Rattle.rescue.proofs.call.salvage_all.Goals as goal
 

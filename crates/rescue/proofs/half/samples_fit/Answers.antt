@@ -1,6 +1,5 @@
 -- `rescue::half::samples_fit` meets its contract: by the system's numbers. Assumes nothing.
 use mathlib.Core.Path.{refl}
-use borrow.Author.Rules.{rules}
 use Rattle.rescue.specs.Taken.{samples_fit}
 use Rattle.rescue.proofs.half.samples_fit.Goals as goal
 

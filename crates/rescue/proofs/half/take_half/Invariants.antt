@@ -1,11 +1,7 @@
--- `rescue::half::take_half` meets its contract: the samples of the sequences below rank r are taken. Assumes nothing.
 use Prim.Native.Nat.{◌+◌, ◌-◌, ◌*◌, ◌≤◌}
-use native.Mathlib.Omega.{arith}
-use borrow.Author.Rules.{rules}
 use Rattle.rules_format.specs.Systems.{half_of}
 use Rattle.sequence_samples.specs.Taken.{Between}
 use Rattle.rescue.specs.Taken.{held_sample}
-use Rattle.rescue.proofs.Halving.{rank_asked, half_none, half_turn, half_taken}
 use Rattle.rescue.proofs.half.take_half.Given as goal
 
 abbrev pub invariant-loop-r : goal.invariant-loop-r

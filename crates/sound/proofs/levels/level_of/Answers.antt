@@ -2,7 +2,6 @@
 use native.Mathlib.Omega.{arith}
 use mir.Syntax.{w16}
 use mir.ValLaws.{to_z-of_z, to_z-Fits}
-use borrow.Author.Rules.{rules}
 use Rattle.sound.proofs.Signed.{upper}
 use Rattle.sound.proofs.levels.level_of.Goals as goal
 

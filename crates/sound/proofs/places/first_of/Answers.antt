@@ -2,7 +2,6 @@
 -- a div 3 is 2 at most
 use Prim.Native.Nat.{◌<◌, ◌≤◌, ◌*◌}
 use native.Mathlib.Omega.{arith}
-use borrow.Author.Rules.{rules}
 use Rattle.rules_format.specs.Sound.{first_at}
 use Rattle.rules_format.proofs.Sound.{first_below, half_ge, half_le}
 use Rattle.sound.proofs.places.first_of.Goals as goal

@@ -8,8 +8,7 @@ use lib.IntN.{ℤ, pos, negsuc}
 use mir.Syntax.{w16, w32}
 use mir.Val.{SFits, to_z, of_z}
 use mir.ValLaws.{to_z-of_z}
-use borrow.Author.Rules.{rules}
-use borrow.Author.Tests.{leb-true, lt-leb, not-true, not-false}
+use borrow.Author.Tests.{leb-true, lt-leb}
 use Rattle.base.specs.Pick.{pick}
 use Rattle.base.proofs.Picks.{both_held}
 use Rattle.paper.specs.declared.SampleNumber.TheVariants.{Sampled, NoSample}

@@ -2,7 +2,6 @@
 use mathlib.Core.Path.{◌≡◌, sym, ap, ◌∙◌}
 use mir.Syntax.{w32}
 use mir.ValLaws.{to_z-of_z}
-use borrow.Author.Rules.{rules}
 use Rattle.rules_format.specs.Samples.{sample_in, word_in}
 use Rattle.sound.proofs.samples.word_for.Goals as goal
 use lib.IntN.{ℤ}

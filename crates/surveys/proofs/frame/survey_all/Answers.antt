@@ -1,12 +1,7 @@
 -- `surveys::frame::survey_all` meets its contract: the loop has noted the faults of the DIF channels below h, and `from` is where DIF channel h starts. Assumes nothing.
-use mathlib.Core.Path.{◌≡◌}
-use Prim.Native.Nat.{◌*◌, ◌-◌, ◌≤◌}
+use Prim.Native.Nat.{◌-◌}
 use native.Mathlib.Omega.{arith}
 use borrow.Author.Rules.{rules}
-use Rattle.base.specs.Run.{run}
-use Rattle.rules_surveys.specs.FaultLists.{channel_faults}
-use Rattle.rules_surveys.specs.Noting.{Noted}
-use Rattle.rules_format.specs.Systems.{sequences_of}
 use Rattle.rules_surveys.proofs.Records.{noted_start, noted_length}
 use Rattle.surveys.proofs.Channels.{channel_asked, channel_turn, next_start, next_small, channels_done}
 use Rattle.surveys.proofs.frame.survey_all.Goals as goal

@@ -1,18 +1,13 @@
--- `surveys::frame::survey_all` meets its contract: the loop has noted the faults of the DIF channels below h, and `from` is where DIF channel h starts. Assumes nothing.
 use mathlib.Core.Path.{◌≡◌}
 use Prim.Native.Nat.{◌*◌, ◌-◌, ◌≤◌}
-use native.Mathlib.Omega.{arith}
-use borrow.Author.Rules.{rules}
 use Rattle.base.specs.Run.{run}
 use Rattle.rules_surveys.specs.FaultLists.{channel_faults}
 use Rattle.rules_surveys.specs.Noting.{Noted}
 use Rattle.rules_format.specs.Systems.{sequences_of}
-use Rattle.rules_surveys.proofs.Records.{noted_start, noted_length}
-use Rattle.surveys.proofs.Channels.{channel_asked, channel_turn, next_start, next_small, channels_done}
 use Rattle.surveys.proofs.frame.survey_all.Given as goal
 
 abbrev pub invariant-loop-h : goal.invariant-loop-h
-invariant-loop-h l = 
+invariant-loop-h l =
     (l.h ≤ 4) × ((l.size ≡ 12000 * sequences_of l.y) × ((l.from ≡ sequences_of l.y * l.h * 12000) × ((l.from ≤ 144000 * l.h) × Noted l.initial.list 0 (run (channel_faults l.y l.frame) l.h) l.list l.total)))
 
 abbrev pub decreases-loop-h : goal.decreases-loop-h

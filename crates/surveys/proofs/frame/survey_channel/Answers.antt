@@ -1,12 +1,7 @@
 -- `surveys::frame::survey_channel` meets its contract: the loop has noted the faults of the sequences below q, and `at` is where sequence q starts. Assumes nothing.
-use mathlib.Core.Path.{◌≡◌}
-use Prim.Native.Nat.{◌+◌, ◌*◌, ◌-◌, ◌≤◌}
+use Prim.Native.Nat.{◌-◌}
 use native.Mathlib.Omega.{arith}
 use borrow.Author.Rules.{rules}
-use Rattle.base.specs.Run.{run}
-use Rattle.rules_surveys.specs.FaultLists.{part_faults}
-use Rattle.rules_surveys.specs.Noting.{Noted}
-use Rattle.rules_format.specs.Systems.{sequences_of}
 use Rattle.rules_surveys.proofs.Records.{noted_start, noted_length}
 use Rattle.surveys.proofs.Channels.{part_fits, part_turn, parts_done}
 use Rattle.surveys.proofs.frame.survey_channel.Goals as goal

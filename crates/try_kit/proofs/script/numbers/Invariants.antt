@@ -1,6 +1,5 @@
 -- `try_kit::script::numbers` is safe and ends. Assumes nothing.
 use Prim.Native.Nat.{◌-◌, ◌≤◌}
-use borrow.Author.Rules.{rules}
 use Rattle.try_kit.proofs.script.numbers.Given as goal
 
 abbrev pub invariant-loop-k : goal.invariant-loop-k

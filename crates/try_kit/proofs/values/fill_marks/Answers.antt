@@ -1,9 +1,7 @@
 -- `try_kit::values::fill_marks` is safe and ends. Assumes nothing.
-use mathlib.Core.Path.{◌≡◌}
 use Prim.Native.Nat.{◌-◌}
 use native.Mathlib.Omega.{arith}
-use lib.ListN.{length, length-set}
-use borrow.Author.Rules.{rules}
+use lib.ListN.{length-set}
 use Rattle.try_kit.proofs.values.fill_marks.Goals as goal
 
 pub loop-i-smaller : goal.loop-i-smaller

@@ -1,8 +1,7 @@
 -- `try_kit::values::fill_numbers` is safe and ends: every number is in 32 bits. Assumes nothing.
-use mathlib.Core.Path.{◌≡◌}
 use Prim.Native.Nat.{ℕ, ◌-◌, ◌<◌, ◌^◌}
 use native.Mathlib.Omega.{arith}
-use lib.ListN.{length, length-set}
+use lib.ListN.{length-set}
 use lib.IntN.{◌-ℤ◌}
 use lib.Signed.{mag}
 use mir.Syntax.{w32}

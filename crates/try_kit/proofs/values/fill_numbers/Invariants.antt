@@ -1,16 +1,6 @@
--- `try_kit::values::fill_numbers` is safe and ends: every number is in 32 bits. Assumes nothing.
 use mathlib.Core.Path.{◌≡◌}
-use Prim.Native.Nat.{ℕ, ◌-◌, ◌<◌, ◌^◌}
-use native.Mathlib.Omega.{arith}
-use lib.ListN.{length, length-set}
-use lib.IntN.{◌-ℤ◌}
-use lib.Signed.{mag}
-use mir.Syntax.{w32}
-use mir.Val.{to_z}
-use mir.ValLaws.{to_z_pos}
-use borrow.Author.Tests.{lt-ltb, le-ltb}
-use borrow.Author.Rules.{rules}
-use Rattle.base.proofs.Cases.{by_lt}
+use Prim.Native.Nat.{◌-◌, ◌<◌}
+use lib.ListN.{length}
 use Rattle.try_kit.proofs.values.fill_numbers.Given as goal
 
 abbrev pub invariant-loop-i : goal.invariant-loop-i

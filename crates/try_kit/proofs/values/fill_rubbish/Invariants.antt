@@ -1,9 +1,6 @@
--- `try_kit::values::fill_rubbish` is safe and ends. Assumes nothing.
 use mathlib.Core.Path.{◌≡◌}
 use Prim.Native.Nat.{◌-◌, ◌<◌}
-use native.Mathlib.Omega.{arith}
-use lib.ListN.{length, length-set}
-use borrow.Author.Rules.{rules}
+use lib.ListN.{length}
 use Rattle.try_kit.proofs.values.fill_rubbish.Given as goal
 
 abbrev pub invariant-loop-j : goal.invariant-loop-j

@@ -1,6 +1,5 @@
 -- `try_kit::values::print_hex` is safe and ends. Assumes nothing.
 use Prim.Native.Nat.{◌-◌, ◌≤◌}
-use borrow.Author.Rules.{rules}
 use Rattle.try_kit.proofs.values.print_hex.Given as goal
 
 abbrev pub invariant-loop-i : goal.invariant-loop-i

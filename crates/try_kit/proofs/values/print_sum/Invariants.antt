@@ -1,7 +1,6 @@
 -- `try_kit::values::print_sum` is safe and ends: both sums stay below 65,521. Assumes nothing.
 use Prim.Native.Nat.{◌-◌, ◌<◌}
 use lib.ListN.{length}
-use borrow.Author.Rules.{rules}
 use Rattle.try_kit.proofs.values.print_sum.Given as goal
 
 abbrev pub invariant-loop-i : goal.invariant-loop-i

@@ -8,7 +8,6 @@ use lib.Signed.{mag, lt_z}
 use mir.Syntax.{w32}
 use mir.Val.{to_z, of_z, SFits}
 use mir.ValLaws.{to_z-of_z}
-use borrow.Author.Rules.{rules}
 use Rattle.sound.proofs.Signed.{down, not_below}
 use Rattle.try_kit.proofs.values.raised.Goals as goal
 use Rattle.try_kit.proofs.values.raised.Goals.{Else-x-lt0, Then-x-lt0}

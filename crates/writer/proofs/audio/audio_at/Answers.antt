@@ -1,6 +1,5 @@
 -- `writer::audio::audio_at` meets its contract: it is 8 at most. Assumes nothing.
 use native.Mathlib.Omega.{arith}
-use borrow.Author.Rules.{rules}
 use Rattle.rules_format.proofs.Sound.{audio_within}
 use Rattle.writer.proofs.audio.audio_at.Goals as goal
 

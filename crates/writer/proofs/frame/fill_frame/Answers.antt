@@ -1,12 +1,8 @@
 -- `writer::frame::fill_frame` meets its contract: the first DIF channels are written, and the rest is as it was. Assumes nothing.
-use mathlib.Core.Path.{◌≡◌, refl}
-use Prim.Native.Nat.{◌-◌, ◌≤◌, ◌*◌}
+use mathlib.Core.Path.{refl}
+use Prim.Native.Nat.{◌-◌}
 use native.Mathlib.Omega.{arith}
-use lib.ListN.{length}
 use borrow.Author.Rules.{rules}
-use Rattle.base.proofs.Filling.{Filled}
-use Rattle.rules_format.specs.Systems.{sequences_of}
-use Rattle.rules_writes.specs.Written.{material_of, written_channel}
 use Rattle.writer.proofs.Whole.{size_fits, start_fits, end_fits, channel_within, channel_part_asked, frame_none, frame_turn, frame_done}
 use Rattle.writer.proofs.frame.fill_frame.Goals as goal
 

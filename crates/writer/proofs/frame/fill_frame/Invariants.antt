@@ -1,13 +1,9 @@
--- `writer::frame::fill_frame` meets its contract: the first DIF channels are written, and the rest is as it was. Assumes nothing.
-use mathlib.Core.Path.{◌≡◌, refl}
+use mathlib.Core.Path.{◌≡◌}
 use Prim.Native.Nat.{◌-◌, ◌≤◌, ◌*◌}
-use native.Mathlib.Omega.{arith}
 use lib.ListN.{length}
-use borrow.Author.Rules.{rules}
 use Rattle.base.proofs.Filling.{Filled}
 use Rattle.rules_format.specs.Systems.{sequences_of}
 use Rattle.rules_writes.specs.Written.{material_of, written_channel}
-use Rattle.writer.proofs.Whole.{size_fits, start_fits, end_fits, channel_within, channel_part_asked, frame_none, frame_turn, frame_done}
 use Rattle.writer.proofs.frame.fill_frame.Given as goal
 
 abbrev pub invariant-loop-h : goal.invariant-loop-h

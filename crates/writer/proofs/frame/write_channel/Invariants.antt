@@ -1,13 +1,9 @@
--- `writer::frame::write_channel` meets its contract: the first sequences are written, and the rest is as it was. Assumes nothing.
-use mathlib.Core.Path.{◌≡◌, refl}
+use mathlib.Core.Path.{◌≡◌}
 use Prim.Native.Nat.{◌-◌, ◌≤◌}
-use native.Mathlib.Omega.{arith}
 use lib.ListN.{length}
-use borrow.Author.Rules.{rules}
-use Rattle.base.proofs.Filling.{Filled, filled_none}
+use Rattle.base.proofs.Filling.{Filled}
 use Rattle.rules_format.specs.Systems.{sequences_of}
 use Rattle.rules_writes.specs.Written.{material_of, written_sequence}
-use Rattle.writer.proofs.Whole.{sequence_next, sequence_asked, channel_turn, channel_done}
 use Rattle.writer.proofs.frame.write_channel.Given as goal
 
 abbrev pub invariant-loop-q : goal.invariant-loop-q

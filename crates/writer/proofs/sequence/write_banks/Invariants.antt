@@ -1,10 +1,7 @@
--- `writer::sequence::write_banks` meets its contract: bank by bank, each from its place on. Assumes nothing.
-use mathlib.Core.Path.{◌≡◌, refl}
+use mathlib.Core.Path.{◌≡◌}
 use Prim.Native.Nat.{◌-◌, ◌≤◌}
-use native.Mathlib.Omega.{arith}
 use lib.ListN.{length}
-use borrow.Author.Rules.{rules}
-use Rattle.writer.proofs.Whole.{FilledFrom, from_none, bank_at, bank_ends, bank_asked, banks_turn, banks_done}
+use Rattle.writer.proofs.Whole.{FilledFrom, bank_at}
 use Rattle.writer.proofs.sequence.write_banks.Given as goal
 
 abbrev pub invariant-loop-a : goal.invariant-loop-a

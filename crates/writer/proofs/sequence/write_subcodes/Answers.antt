@@ -1,13 +1,9 @@
 -- `writer::sequence::write_subcodes` meets its contract: the first blocks are written, and the rest is as it was. Assumes nothing.
-use mathlib.Core.Path.{◌≡◌, refl}
-use Prim.Native.Nat.{◌-◌, ◌≤◌}
+use mathlib.Core.Path.{refl}
+use Prim.Native.Nat.{◌-◌}
 use native.Mathlib.Omega.{arith}
-use lib.ListN.{length}
 use borrow.Author.Rules.{rules}
-use Rattle.base.proofs.Filling.{Filled, filled_none}
-use Rattle.paper.specs.declared.Section.TheVariants.{Subcode}
-use Rattle.rules_packs.specs.Subcode.{is_first, subcode_bytes}
-use Rattle.writer.specs.Blocks.{section_block}
+use Rattle.base.proofs.Filling.{filled_none}
 use Rattle.writer.proofs.Whole.{subcodes_turn, subcodes_done}
 use Rattle.writer.proofs.sequence.write_subcodes.Goals as goal
 

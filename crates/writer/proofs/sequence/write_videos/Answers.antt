@@ -1,11 +1,10 @@
 -- `writer::sequence::write_videos` meets its contract: the first blocks are written, and the rest is as it was. Assumes nothing.
-use mathlib.Core.Path.{◌≡◌, refl}
-use Prim.Native.Nat.{◌-◌, ◌≤◌}
+use mathlib.Core.Path.{refl}
+use Prim.Native.Nat.{◌-◌}
 use native.Mathlib.Omega.{arith}
-use lib.ListN.{length}
 use borrow.Author.Rules.{rules}
-use Rattle.base.proofs.Filling.{Filled, filled_none}
-use Rattle.writer.proofs.Whole.{video_in, videos_turn, videos_done}
+use Rattle.base.proofs.Filling.{filled_none}
+use Rattle.writer.proofs.Whole.{videos_turn, videos_done}
 use Rattle.writer.proofs.sequence.write_videos.Goals as goal
 
 pub loop-j-init : goal.loop-j-init

@@ -1,11 +1,8 @@
--- `writer::sequence::write_videos` meets its contract: the first blocks are written, and the rest is as it was. Assumes nothing.
-use mathlib.Core.Path.{◌≡◌, refl}
+use mathlib.Core.Path.{◌≡◌}
 use Prim.Native.Nat.{◌-◌, ◌≤◌}
-use native.Mathlib.Omega.{arith}
 use lib.ListN.{length}
-use borrow.Author.Rules.{rules}
-use Rattle.base.proofs.Filling.{Filled, filled_none}
-use Rattle.writer.proofs.Whole.{video_in, videos_turn, videos_done}
+use Rattle.base.proofs.Filling.{Filled}
+use Rattle.writer.proofs.Whole.{video_in}
 use Rattle.writer.proofs.sequence.write_videos.Given as goal
 
 abbrev pub invariant-loop-j : goal.invariant-loop-j
