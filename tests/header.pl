@@ -33,13 +33,13 @@ sub parameter {
 sub from_sources {
     my @lines;
     my $source = text($exports);
-    while ($source =~ /#\[no_mangle\]\npub extern "C" fn (\w+)\((.*?)\) -> (\w+)\n/sg) {
+    while ($source =~ /#\[unsafe\(no_mangle\)\]\npub extern "C" fn (\w+)\((.*?)\) -> (\w+)\n/sg) {
         my ($name, $inside, $result) = ($1, $2, $3);
         my @parameters = map { parameter(/^\s*(\w+): (.*?)\s*$/) } grep { /\S/ } split /,/, $inside;
         push @lines, "$answer{$result} $name(" . join(', ', @parameters) . ');';
     }
     my $types = text($structs);
-    while ($types =~ /#\[repr\(C\)\]\npub struct (\w+) \{\n(.*?)\n\}/sg) {
+    while ($types =~ /#\[repr\(C\)\]\n(?:#\[derive[^\n]*\n)?pub struct (\w+) \{\n(.*?)\n\}/sg) {
         my ($name, $inside) = ($1, $2);
         my @fields = map { /pub (\w+): (?:\[(\w+); (\d+)\]|(\w+))/ or die "no C for the field $_\n";
             $number{$2 // $4} . ' ' . ($field{$1} // $1) . ($2 ? "[$3]" : '') . ';' } split /\n/, $inside;

@@ -25,9 +25,9 @@ else
 fi
 
 # build_library: proves the face for C and what it stands on, where that is not done, and writes the static library
-LIBRARY=$top/target/staticlib/libdv100.a
+LIBRARY=$top/crates/dv100/out/libdv100.a
 build_library() {
-    [ -f "$LIBRARY" ] && [ -z "$(find "$top/crates" \( -name '*.rt' -o -name '*.antt' \) -newer "$LIBRARY" -print -quit)" ] && return 0
+    [ -f "$LIBRARY" ] && [ -z "$(find "$top/crates" -name out -prune -o \( -name '*.rt' -o -name '*.antt' \) -newer "$LIBRARY" -print -quit)" ] && return 0
     local said
-    said=$(cd "$top" && rt staticlib dv100 2>&1 </dev/null) || { printf '%s\n' "$said" >&2; return 1; }
+    said=$(cd "$top/crates/dv100" && rt lib 2>&1 </dev/null) || { printf '%s\n' "$said" >&2; return 1; }
 }

@@ -7,11 +7,8 @@ use Rattle.paper.specs.declared.System.{System}
 use Rattle.paper.specs.declared.SystemNumber.TheVariants.{Known}
 use Rattle.rules_format.specs.Systems.{system_of}
 use Rattle.rules_packs.specs.Subcode.{is_first, kind_of, subcode_bytes, ssybs}
-use Rattle.rules_packs.specs.Vaux
 use Rattle.rules_packs.specs.Vaux.{vaux_bytes, vaux_packs}
-use Rattle.rules_packs.specs.Aaux
 use Rattle.rules_format.proofs.Paper.{columns, time_below, group_below}
-use Rattle.rules_packs.specs.TimeCode
 use Rattle.rules_packs.specs.InBytes.{InBytes}
 use Rattle.rules_packs.proofs.Written.{header_form_lem, half_first, is_time_lem, is_group_lem, holds_time_lem, holds_group_lem, ssyb_form_lem}
 use Rattle.rules_packs.proofs.Written.{vaux_form_lem, aaux_form_lem}

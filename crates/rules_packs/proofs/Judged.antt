@@ -11,13 +11,10 @@ use Rattle.paper.specs.declared.System.{System}
 use Rattle.paper.specs.declared.System.TheVariants.{I60, I50, P60, P50}
 use Rattle.paper.specs.declared.SystemNumber.TheVariants.{Known}
 use Rattle.paper.specs.declared.Pack.{Pack}
-use Rattle.paper.specs.declared.SubcodePack.TheVariants.{TimeCode}
 use Rattle.rules_format.specs.Systems.{rate_of, stype_of, system_of, counts_of, is_count, number_of_system}
-use Rattle.rules_packs.specs.Vaux
 use Rattle.rules_packs.specs.Vaux.{vs_at, vs_ok}
-use Rattle.rules_packs.specs.Aaux
 use Rattle.rules_packs.specs.Aaux.{as_at, count_of, count_in, As, as_ok}
-use Rattle.paper.specs.Paper.{rate, stype, as_pack, vs_pack, last_frame, count_by}
+use Rattle.paper.specs.Paper.{rate, as_pack, vs_pack, last_frame, count_by}
 use Rattle.paper.specs.Bytes.{WrongDigits, WrongClock, WrongTime, OwnCount, WrongAs, WrongVs}
 use Rattle.rules_format.proofs.Systems.{count_cases}
 use Rattle.rules_format.proofs.Paper.{Columns, columns, number_known}

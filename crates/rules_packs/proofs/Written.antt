@@ -37,7 +37,6 @@ use Rattle.rules_packs.specs.Repeated.{subcode_of}
 use lib.Seq.{take_all}
 use Rattle.base.specs.Run.{run, tab}
 use Rattle.base.proofs.Runs.{tab_part}
-use Rattle.rules_packs.specs.TimeCode
 
 -- ---- packBytes: those that a pack was made of
 
