@@ -28,7 +28,7 @@ example() {
     diff "$work/printed" "$work/output" || { echo "readme FAILED: the commands of $1 print something else"; exit 1; }
 }
 
-[ "$(block 1)" = "mkdir -p target; (cd crates/dv100 && rt lib)" ] || { echo "readme FAILED: the library is built by another command"; exit 1; }
+[ "$(block 1)" = "mkdir -p target; (cd crates/dv100 && rt lib --backend rattle)" ] || { echo "readme FAILED: the library is built by another command"; exit 1; }
 [ "$(cd examples && echo *)" = "commentary.c salvage.c" ] || { echo "readme FAILED: other examples are there"; exit 1; }
 mkdir -p target; build_library || exit 1
 example salvage 2

@@ -29,5 +29,5 @@ LIBRARY=$top/crates/dv100/out/libdv100.a
 build_library() {
     [ -f "$LIBRARY" ] && [ -z "$(find "$top/crates" -name out -prune -o \( -name '*.rt' -o -name '*.antt' \) -newer "$LIBRARY" -print -quit)" ] && return 0
     local said
-    said=$(cd "$top/crates/dv100" && rt lib 2>&1 </dev/null) || { printf '%s\n' "$said" >&2; return 1; }
+    said=$(cd "$top/crates/dv100" && rt lib --backend rattle 2>&1 </dev/null) || { printf '%s\n' "$said" >&2; return 1; }
 }
