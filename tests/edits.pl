@@ -7,6 +7,7 @@ use strict;
 use warnings;
 use Digest::SHA qw(sha256_hex);
 use File::Path qw(make_path remove_tree);
+use File::Temp qw(tempdir);
 
 my $sums = @ARGV && $ARGV[0] eq '--sums' ? shift : '';
 my $workers = shift // 2;
@@ -79,15 +80,14 @@ sub edited {
 
 sub write_to { my ($path, $text) = @_; open my $out, '>', $path or die "$path: $!"; print $out $text; close $out or die "$path: $!" }
 
-# a worker has a copy of the repository, where the crate below an edit's is as it stands
+# a worker has a copy of the repository, in which one file or some are another while an edit is tried
 my @pids;
 for my $worker (1 .. $workers) {
     my @mine = map { $queue[$_] } grep { $_ % $workers == $worker - 1 } 0 .. $#queue;
     next unless @mine;
     my $pid = fork // die "fork: $!";
     if ($pid) { push @pids, $pid; next }
-    my $room = "target/edits/$worker";
-    remove_tree($room);
+    my $room = tempdir(CLEANUP => 1);
     make_path("$room/.git");
     for (split /\n/, `git ls-files -co --exclude-standard crates crates.txt`) {
         next unless -e $_;
@@ -105,9 +105,8 @@ for my $worker (1 .. $workers) {
             write_to("$room/crates/$crate/$_", text("crates/$crate/$_")) for keys %$texts;
             write_to("target/must-fail/$crate/$name.log", $sum{"$crate/$name"} . "\n" . $said);
         }
-        remove_tree("$room/crates/$crate/out") if @{ $todo{$crate} };
+        remove_tree("$room/crates/$crate/out");
     }
-    remove_tree($room);
     exit;
 }
 my $failed = 0;

@@ -1,6 +1,6 @@
 #!/bin/bash
 # What each refused edit breaks, by all that the prover says of it, is what docs/PROMISES.md says of it: the rows of its last table, in
-# the same order. A difference fails. tests/fallen.sums has, for each row that was seen to hold, the sum of what it stands on; an edit
+# the same order, and in the last column the same names in any order, as the prover's jobs come to them. A difference fails. tests/fallen.sums has, for each row that was seen to hold, the sum of what it stands on; an edit
 # whose sum is another is tried anew (tests/edits.pl, $1 at once, 2 where nothing is said), and its sum is written where all rows hold.
 set -u
 cd "$(dirname "$0")/.."
@@ -18,7 +18,9 @@ status=$?
 awk '/^## What each edit breaks/ { on = 1 } on && /^\| [a-z_0-9]+ `/' docs/PROMISES.md >"$work/said"
 rows=$(($(wc -l <"$work/said")))
 awk -F '[ `|]+' 'NR == FNR { kept[$0] = 1; next } !($2 "/" $3 in kept)' "$work/kept" "$work/said" >"$work/asked"
-if diff "$work/asked" "$work/fallen"; then differ=0; else differ=1; fi
+# the last column in the order of the alphabet
+by_name() { perl -pe 's{([^|]+) \|$}{" " . join(", ", sort split /, /, $1 =~ s/^ +//r) . " |"}e' "$1"; }
+if diff <(by_name "$work/asked") <(by_name "$work/fallen"); then differ=0; else differ=1; fi
 [ "$rows" -eq "$(($(wc -l <"$work/sums")))" ] || { echo "fallen: $rows rows, and another number of edits"; differ=1; }
 
 echo "refused edits: docs/PROMISES.md says of $rows what they break, $([ "$differ" -eq 0 ] && echo and so it is || echo which differs)"
