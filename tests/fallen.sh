@@ -17,7 +17,7 @@ status=$?
 [ "$status" -eq 0 ] || echo "fallen: tests/fallen.pl has ended with $status"
 awk '/^## What each edit breaks/ { on = 1 } on && /^\| [a-z_0-9]+ `/' docs/PROMISES.md >"$work/said"
 rows=$(($(wc -l <"$work/said")))
-awk -F '[ `|]+' 'NR == FNR { kept[$0] = 1; next } !($2 "/" $3 in kept)' "$work/kept" "$work/said" >"$work/asked"
+awk -F '[ `|]+' 'FILENAME == ARGV[1] { kept[$0] = 1; next } !($2 "/" $3 in kept)' "$work/kept" "$work/said" >"$work/asked"
 # the last column in the order of the alphabet
 by_name() { perl -pe 's{([^|]+) \|$}{" " . join(", ", sort split /, /, $1 =~ s/^ +//r) . " |"}e' "$1"; }
 if diff <(by_name "$work/asked") <(by_name "$work/fallen"); then differ=0; else differ=1; fi
