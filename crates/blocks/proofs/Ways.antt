@@ -1,4 +1,5 @@
 -- Each way out of the block writers, by what their callees left. Assumes nothing.
+use Rattle.std.specs.Prelude.{Option, Some, None}
 use mathlib.Core.Path.{◌≡◌, refl, sym, ap, ◌∙◌}
 use mathlib.Core.Bool.{Bool}
 use mathlib.Core.List.{List, [], ◌∷◌, ◌++◌, append-nil}
@@ -20,8 +21,6 @@ use Rattle.paper.specs.declared.BlockId.{BlockId}
 use Rattle.paper.specs.declared.Pack.{Pack}
 use Rattle.paper.specs.declared.SubcodeData.{SubcodeData}
 use Rattle.paper.specs.declared.SubcodePack.{SubcodePack}
-use Rattle.paper.specs.declared.Carried.{Carried}
-use Rattle.paper.specs.declared.Carried.TheVariants.{Macroblock, Nothing}
 use Rattle.rules_format.specs.Ids.{id_bytes}
 use Rattle.rules_packs.specs.Packs.{pack_bytes}
 use Rattle.rules_packs.specs.Header.{rate_byte, header_bytes}
@@ -146,19 +145,19 @@ copy_done s d xs i e n m le ge =
     let all : take 77 s ≡ s = take_all 77 s (omega arith) in
     copy_turn s d xs 76 (e ∙ rw same refl) n m (omega arith) ∙ rw (all, none_left 77 d m) (append-nil s)
 
-module _ (xs : List ℕ) (y : System) (h q v : ℕ) (macroblocks : List ℕ) (asked : VideoAsked xs y macroblocks) (r : Carried) (er : r ≡ carried_in y (slot h q v)) where
+module _ (xs : List ℕ) (y : System) (h q v : ℕ) (macroblocks : List ℕ) (asked : VideoAsked xs y macroblocks) (r : Option ℕ) (er : r ≡ carried_in y (slot h q v)) where
   -- the macroblock that is carried is within those that are lent
-  pub macroblock_within : (b : ℕ) → r ≡ Macroblock b → 77 * b + 77 ≤ length macroblocks
+  pub macroblock_within : (b : ℕ) → r ≡ Some b → 77 * b + 77 ≤ length macroblocks
   macroblock_within b e = omega (arith, asked.pictures, (carried_lies y (slot h q v) b (sym er ∙ e)).0)
 
-  pub macroblock_done : (zs ws : List ℕ) (id : BlockId) (b : ℕ) → r ≡ Macroblock b → zs ≡ id_bytes id → ws ≡ take (77 * b + 77 - 77 * b) (drop (77 * b) macroblocks)
+  pub macroblock_done : (zs ws : List ℕ) (id : BlockId) (b : ℕ) → r ≡ Some b → zs ≡ id_bytes id → ws ≡ take (77 * b + 77 - 77 * b) (drop (77 * b) macroblocks)
       → put_mid 3 77 (zs ++ post_of 0 3 xs) ws ≡ id_bytes id ++ video_bytes y macroblocks h q v
   unfolding id_bytes video_bytes carried_bytes
   macroblock_done zs ws id b e ez ew =
       let rest : drop 77 (drop 3 xs) ≡ [] = drop-drop 77 3 xs ∙ none_left 80 xs asked.long in
       rw (ez, rest, append-nil, ← er, e, ew, range_part (77 * b) 77 macroblocks, tab_part 0 macroblocks (77 * b) 77 (macroblock_within b e)) refl
 
-  pub empty_done : (zs part ws : List ℕ) (id : BlockId) → r ≡ Nothing → zs ≡ id_bytes id → length part ≡ 77 → ws ≡ replicate (length part) 255
+  pub empty_done : (zs part ws : List ℕ) (id : BlockId) → r ≡ None → zs ≡ id_bytes id → length part ≡ 77 → ws ≡ replicate (length part) 255
       → put_mid 3 77 (zs ++ post_of 0 3 xs) ws ≡ id_bytes id ++ video_bytes y macroblocks h q v
   unfolding id_bytes video_bytes carried_bytes
   empty_done zs part ws id e ez n ew =

@@ -8,7 +8,7 @@ ghost use Rattle.blocks.specs.Fits.{video_fits};
 
 use crate::parts;
 use layout::BLOCK;
-use paper::{BlockId, Carried, System};
+use paper::{BlockId, System};
 
 // 77 bytes from one part to another. The length is written out and the odd byte stands by itself, for the sake of the loop.
 fn copy_macroblock(part: &mut [u8], from: &[u8])
@@ -29,12 +29,12 @@ fn write_video(block: &mut [u8], id: BlockId, y: System, macroblocks: &[u8])
 {
     parts::put_id(&mut block[0..3], id);
     match picture::carried(y, id.channel, id.dseq, id.dbn) {
-        Carried::Macroblock(b) => {
+        Some(b) => {
             let at = 77 * (b as usize);
             let to = at + 77;
             copy_macroblock(&mut block[3..BLOCK], &macroblocks[at..to]);
         }
-        Carried::Nothing => base::fill(&mut block[3..BLOCK], 0xFF),
+        None => base::fill(&mut block[3..BLOCK], 0xFF),
     }
 }
 

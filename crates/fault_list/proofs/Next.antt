@@ -1,4 +1,5 @@
 -- What `next_faults` is, and the ways out of `survey_next`: o is what `outside` answers. Assumes nothing.
+use Rattle.std.specs.Prelude.{Some}
 use mathlib.Core.Path.{◌≡◌, refl, sym, ap, ◌∙◌}
 use mathlib.Core.List.{List, []}
 use mathlib.Core.Bool.{Bool, true, false, not, ◌&&◌}
@@ -9,7 +10,6 @@ use lib.ListN.{length}
 use borrow.Author.Tests.{eq-eqb, ne_eqb, lt-leb, lt-ltb, le-ltb}
 use Rattle.base.proofs.Picks.{pick_true, pick_false}
 use Rattle.paper.specs.declared.System.{System}
-use Rattle.paper.specs.declared.SystemNumber.TheVariants.{Known}
 use Rattle.rules_format.specs.Systems.{sequences_of}
 use Rattle.rules_surveys.specs.FaultLists.{sequence_faults}
 use Rattle.rules_surveys.specs.Noting.{Noted}
@@ -21,13 +21,13 @@ use Rattle.rules_surveys.proofs.Calls.{inside_means}
 use Rattle.judged_bits.specs.Clean.{PartAsked, Clean}
 use Rattle.fault_list.specs.Asked.{next_faults}
 
-module _ (y : System) (h q : ℕ) (part : List ℕ) (t : ℕ) (o : Bool) (eo : o ≡ outside_sequences (Known y) h q) where
+module _ (y : System) (h q : ℕ) (part : List ℕ) (t : ℕ) (o : Bool) (eo : o ≡ outside_sequences (Some y) h q) where
   pub none_outside : o ≡ true → next_faults y h q part t ≡ []
   unfolding next_faults
   none_outside e = pick_false _ _ (ap (λ (b : Bool). not b && (eqb (length part) 12000 && ltb t 8000)) (sym eo ∙ e))
 
   module _ (f : o ≡ false) where
-    inside : not (outside_sequences (Known y) h q) ≡ true
+    inside : not (outside_sequences (Some y) h q) ≡ true
     inside = ap not (sym eo ∙ f)
 
     pub none_length : (length part ≡ 12000 → ⊥) → next_faults y h q part t ≡ []
@@ -43,7 +43,7 @@ module _ (y : System) (h q : ℕ) (part : List ℕ) (t : ℕ) (o : Bool) (eo : o
       unfolding next_faults
       all_next l = pick_true _ _ (rw (inside, eq-eqb _ _ e, lt-ltb t 8000 l) refl)
 
-module _ (y : System) (h q : ℕ) (part list : List ℕ) (t : ℕ) (o : Bool) (eo : o ≡ outside_sequences (Known y) h q) where
+module _ (y : System) (h q : ℕ) (part list : List ℕ) (t : ℕ) (o : Bool) (eo : o ≡ outside_sequences (Some y) h q) where
   noted : next_faults y h q part t ≡ [] → Noted list t (next_faults y h q part t) list t
   noted e = rw e (noted_none list t)
 
@@ -70,7 +70,7 @@ unfolding next_faults
 next_inside y h q part t hh hq e l = rw (lt-leb _ _ hh, lt-leb _ _ hq, eq-eqb _ _ e, lt-ltb t 8000 l) (pick_true _ _ refl)
 
 -- what is asked of the sequence
-pub next_asked : (y : System) (h q : ℕ) (part : List ℕ) (o : Bool) → o ≡ outside_sequences (Known y) h q → o ≡ false → length part ≡ 12000 → PartAsked part h q
+pub next_asked : (y : System) (h q : ℕ) (part : List ℕ) (o : Bool) → o ≡ outside_sequences (Some y) h q → o ≡ false → length part ≡ 12000 → PartAsked part h q
 next_asked y h q part o eo f e =
     let i = inside_means y h q (sym eo ∙ f) in
     record { whole = e; sequence = record { channel = i.0; sequence = omega (arith, i.1, sequences_le y) } }

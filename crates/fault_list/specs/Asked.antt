@@ -1,8 +1,7 @@
 -- What the functions say.
-use Rattle.std.specs.Prelude.{Bool, true, false, not, ◌&&◌, List, [], ℕ, ◌/◌, min, eqb, ltb, length}
+use Rattle.std.specs.Prelude.{Bool, true, false, not, ◌&&◌, List, [], ℕ, ◌/◌, min, eqb, ltb, length, Some}
 use Rattle.base.specs.Pick.{pick}
 use Rattle.paper.specs.declared.System.{System}
-use Rattle.paper.specs.declared.SystemNumber.TheVariants.{Known}
 use Rattle.paper.specs.declared.IdAnswer.{IdAnswer}
 use Rattle.paper.specs.declared.IdAnswer.TheVariants.{Named, Reserved, WrongLength}
 use Rattle.paper.specs.declared.Fault.{Fault}
@@ -24,4 +23,4 @@ tallied t size = record { number = 0; total = t; kept = min (size / width) t }
 -- the faults of sequence q of DIF channel h, where t came before; none where it is none of the system's, or t are too many
 unfoldable pub next_faults : System → ℕ → ℕ → List ℕ → ℕ → List Fault
 next_faults y h q part t =
-    pick (not (outside_sequences (Known y) h q) && (eqb (length part) 12000 && ltb t 8000)) (sequence_faults part h q) []
+    pick (not (outside_sequences (Some y) h q) && (eqb (length part) 12000 && ltb t 8000)) (sequence_faults part h q) []

@@ -1,13 +1,13 @@
 // The fault of a block where it stands, and whether a sequence is one of the system's.
 #![tactic(auto)]
 
-ghost use Rattle.std.specs.Prelude.{◌≡◌, eqb};
+ghost use Rattle.std.specs.Prelude.{◌≡◌, eqb, Some};
 ghost use Rattle.rules_format.specs.Ids.{block_answer};
 ghost use Rattle.rules_format.specs.Faults.{misnamed, fault_of, fault_at};
 ghost use Rattle.rules_surveys.specs.Survey.{outside_sequences};
 
 use layout::CHANNELS;
-use paper::{BlockId, Entry, IdAnswer, Place, System, SystemNumber};
+use paper::{BlockId, Entry, IdAnswer, Place, System};
 
 // The fault of a named block where an entry stands, or 0.
 fn named_fault(b: BlockId, h: u32, q: u32, e: Entry) -> u32
@@ -57,7 +57,7 @@ pub fn names_entry(block: &[u8], h: u32, q: u32, e: Entry) -> bool
 
 // DIF channel or sequence outside the system.
 pub fn outside(y: System, h: u32, q: u32) -> bool
-    ensures { result ≡ outside_sequences (SystemNumber.Known y) h q }
+    ensures { result ≡ outside_sequences (Some y) h q }
 {
     (CHANNELS <= h) | (layout::sequences(y) <= q)
 }

@@ -1,4 +1,5 @@
 -- What the calls answer of two frames that are alike but for the sound, by what the promises say of each. Assumes nothing.
+use Rattle.std.specs.Prelude.{Some}
 use mathlib.Core.Path.{◌≡◌, sym, ap, ◌∙◌, subst}
 use mathlib.Core.List.{List}
 use mathlib.Core.Logic.{inl, inr, ◌≢◌}
@@ -8,7 +9,6 @@ use lib.IntN.{ℤ}
 use lib.ListN.{length}
 use Rattle.base.proofs.Cases.{by_lt, by_eq}
 use Rattle.paper.specs.declared.System.{System}
-use Rattle.paper.specs.declared.SystemNumber.TheVariants.{Known}
 use Rattle.paper.specs.declared.Survey.{Survey}
 use Rattle.paper.specs.declared.Place.{Place}
 use Rattle.paper.specs.declared.Part.{Part}
@@ -80,7 +80,7 @@ module _ {k : ℕ} {f : List ℕ} {c : ℕ} {samples heard : List ℤ} {r : Audi
       (by_lt 0 c (λ l. l) (λ zero. absurd (three.0 (inl (omega arith)))), by_lt c 9 (λ l. l) (λ above. absurd (three.0 (inr above))))
 
   -- its samples are among the positions
-  pub count_within : (y : System) → system_of k ≡ Known y → r.count < positions k
+  pub count_within : (y : System) → system_of k ≡ Some y → r.count < positions k
   count_within y known =
       let zero : audio_number k f c (length samples) ≡ 0 = sym (audio_number_lem k f c samples read) ∙ z in
       omega (

@@ -1,4 +1,5 @@
 -- What was written reads back: a written frame passes the frame check, and each read finds what the writer was given. Assumes nothing.
+use Rattle.std.specs.Prelude.{Some}
 use mathlib.Core.Path.{◌≡◌, refl, sym, ap, ◌∙◌, subst}
 use mathlib.Core.Bool.{true, false, not}
 use mathlib.Core.List.{List, []}
@@ -9,13 +10,11 @@ use borrow.Author.Tests.{eq-eqb, ne_eqb}
 use Rattle.base.specs.Calls.{first_of}
 use Rattle.base.proofs.Picks.{both_hold, pick_true}
 use Rattle.paper.specs.declared.System.{System}
-use Rattle.paper.specs.declared.SystemNumber.TheVariants.{Known}
 use Rattle.paper.specs.declared.Section.TheVariants.{Header, Subcode, Vaux, Audio}
 use Rattle.paper.specs.declared.Pack.{Pack}
 use Rattle.paper.specs.declared.Slot.{Slot}
 use Rattle.paper.specs.declared.SubcodePack.{SubcodePack}
 use Rattle.paper.specs.declared.SubcodePack.TheVariants.{TimeCode, BinaryGroup, NoPack}
-use Rattle.paper.specs.declared.Carried.TheVariants.{Macroblock}
 use Rattle.rules_format.specs.Systems.{sequences_of, half_of, positions_of, is_count, system_of}
 use Rattle.rules_format.specs.Places.{place_in}
 use Rattle.rules_format.specs.Blocks.{sequence_at, block_in}
@@ -100,7 +99,7 @@ module _ (y : System) (l : Contents) where
   rows_written = rows_0 y (written_frame y l) faultless dsf_agrees_lem vs_agrees_lem
 
   -- a written frame passes
-  pub check_written : (k : ℕ) → system_of k ≡ Known y → check_number k (written_frame y l) ≡ 0
+  pub check_written : (k : ℕ) → system_of k ≡ Some y → check_number k (written_frame y l) ≡ 0
   unfolding f
   check_written k known = check_0 k (written_frame y l) y known (frame_length y l) faultless dsf_agrees_lem vs_agrees_lem
 
@@ -155,7 +154,7 @@ module _ (y : System) (l : Contents) where
   pub picture_written : first_of (picture_rows y (written_frame y l)) ≡ 0
   picture_written = sym (picture_0 y (written_frame y l) (flags_clear 2 (omega arith) (omega arith)))
 
-  pub slot_written : (s : Slot) (b : ℕ) → carried_in y s ≡ Macroblock b → 77 * b + 77 ≤ length l.macroblocks → slot_bytes y (written_frame y l) s ≡ take 77 (drop (77 * b) l.macroblocks)
+  pub slot_written : (s : Slot) (b : ℕ) → carried_in y s ≡ Some b → 77 * b + 77 ≤ length l.macroblocks → slot_bytes y (written_frame y l) s ≡ take 77 (drop (77 * b) l.macroblocks)
   unfolding slot_bytes
   slot_written s b e room =
       let i = carried_inside y s b e in

@@ -1,4 +1,5 @@
 -- The workshop of "A new commentary channel in a finished frame": what is read and written around a frame whose channel was replaced. Assumes nothing.
+use Rattle.std.specs.Prelude.{Some}
 use mathlib.Core.Path.{◌≡◌, refl, sym, ap, ◌∙◌, subst}
 use mathlib.Core.List.{List}
 use mathlib.Core.Bool.{true}
@@ -10,7 +11,6 @@ use lib.ListN.{length, get_or, replicate, length-replicate}
 use borrow.Author.Tests.{eq-eqb, ne_eqb, eqb-false}
 use Rattle.base.proofs.Cases.{by_bool, by_eq}
 use Rattle.paper.specs.declared.System.{System}
-use Rattle.paper.specs.declared.SystemNumber.TheVariants.{Known}
 use Rattle.paper.specs.declared.AudioAnswer.{AudioAnswer}
 use Rattle.paper.specs.declared.TimeAnswer.{TimeAnswer}
 use Rattle.paper.specs.declared.Survey.{Survey}
@@ -60,7 +60,7 @@ sample_again z e = ap sample_by (sym (word_is z e)) ∙ sym (heard_is _) ∙ num
 
 -- ---- the call answered 0 and left g
 
-module _ {k : ℕ} {f : List ℕ} {c : ℕ} {samples : List ℤ} {g : List ℕ} (call : Replaced k f c samples 0 g) (y : System) (known : system_of k ≡ Known y) (t : Takes y f c samples) where
+module _ {k : ℕ} {f : List ℕ} {c : ℕ} {samples : List ℤ} {g : List ℕ} (call : Replaced k f c samples 0 g) (y : System) (known : system_of k ≡ Some y) (t : Takes y f c samples) where
   few : count_stored k f c ≤ positions k
   few = omega (arith, takes_few t, stored_count k y known f c samples t, (columns k y known).positions_is)
 

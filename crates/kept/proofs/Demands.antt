@@ -1,5 +1,6 @@
 -- The promises are kept, of any answer that the contracts of the public calls allow. Each theorem cites its workshop; what it says is in crate `promises`
 -- (`Demand1`, `Demand2`, `Demand3`, `Unrecorded`, `Commentary`, `SpareBits`; `Refusals`, `Form`), in the words of crate `paper`. Assumes nothing.
+use Rattle.std.specs.Prelude.{Some}
 use mathlib.Core.Path.{◌≡◌, refl, sym, ◌∙◌}
 use mathlib.Core.Bool.{Bool, true, false}
 use mathlib.Core.List.{List, [], ◌∷◌, ◌++◌}
@@ -72,7 +73,6 @@ use Rattle.rules_picture.specs.Slots.{SlotsInNumbers}
 use Rattle.rules_packs.specs.InBytes.{InBytes}
 use Rattle.rules_format.specs.Systems.{system_of}
 use Rattle.paper.specs.declared.System.{System}
-use Rattle.paper.specs.declared.SystemNumber.TheVariants.{Known}
 
 -- ---- the rules, each in its own crate: the known places of document 01, the printed rows of tables 22 to 24, and the definitions in document 01's numbers
 -- and bytes
@@ -89,7 +89,7 @@ format_in_numbers = format.format_in_numbers
 pub slots_in_numbers : SlotsInNumbers
 slots_in_numbers = picture.slots_in_numbers
 
-pub packs_in_bytes : (k : ℕ) (y : System) → system_of k ≡ Known y → InBytes k y
+pub packs_in_bytes : (k : ℕ) (y : System) → system_of k ≡ Some y → InBytes k y
 packs_in_bytes = packs.packs_in_bytes
 
 -- the words of `base` in the statements: one of two by a test, the first row that holds, part after part, one outcome

@@ -1,4 +1,5 @@
 -- A frame holds one contents, by its bytes. Assumes nothing.
+use Rattle.std.specs.Prelude.{Some}
 use mathlib.Core.Path.{◌≡◌, refl, sym, ap, ◌∙◌}
 use mathlib.Core.List.{List}
 use Prim.Native.Nat.{ℕ, ◌+◌, ◌-◌, ◌*◌, ◌/◌, ◌%◌, ◌<◌}
@@ -12,9 +13,6 @@ use Rattle.base.specs.Run.{tab}
 use Rattle.base.proofs.Parts.{length_part}
 use Rattle.base.proofs.Runs.{end_within, length_tab, tab_at, tab_same, tab_part}
 use Rattle.paper.specs.declared.System.{System}
-use Rattle.paper.specs.declared.SystemNumber.TheVariants.{Known}
-use Rattle.paper.specs.declared.Carried.TheVariants.{Macroblock}
-use Rattle.paper.specs.declared.Carrier.TheVariants.{In}
 use Rattle.paper.specs.Paper.{sequences, macroblocks, start, bytes_at, sound_word, sample_by, count_said, slot_place, carried}
 use Rattle.promises.specs.Contents.{Contents}
 use Rattle.promises.specs.Commentary.{FrameHolds}
@@ -27,7 +25,7 @@ use Rattle.rules_picture.proofs.Picture.{carried_lies}
 use Rattle.rules_picture.proofs.Slots.{carried_is, slot_of}
 use Rattle.rules_reads.specs.Macroblock.{slot_bytes, carrier_bytes}
 
-module _ (k : ℕ) (y : System) (known : system_of k ≡ Known y) (f : List ℕ) (whole : length f ≡ 48000 * sequences k) where
+module _ (k : ℕ) (y : System) (known : system_of k ≡ Some y) (f : List ℕ) (whole : length f ≡ 48000 * sequences k) where
   abbrev n : ℕ
   n = sequences k
 
@@ -39,8 +37,8 @@ module _ (k : ℕ) (y : System) (known : system_of k ≡ Known y) (f : List ℕ)
   part : ℕ → List ℕ
   part b = carrier_bytes y f (carrier_of y b)
 
-  module _ (h q g m b : ℕ) (hh : h < 4) (hq : q < n) (hg : g < 27) (hm : m < 5) (carries : carried k h q g m ≡ Macroblock b) where
-    lies : (b < macroblocks_of y) × (carrier_of y b ≡ In (slot h q (5 * g + m)))
+  module _ (h q g m b : ℕ) (hh : h < 4) (hq : q < n) (hg : g < 27) (hm : m < 5) (carries : carried k h q g m ≡ Some b) where
+    lies : (b < macroblocks_of y) × (carrier_of y b ≡ Some (slot h q (5 * g + m)))
     lies = carried_lies y (slot h q (5 * g + m)) b (carried_is h q g m hg hm k y known hh (omega (arith, hq, (columns k y known).sequences_is)) ∙ carries)
 
     part_is : part b ≡ bytes_at n f h q (slot_place (5 * g + m)) 3 77

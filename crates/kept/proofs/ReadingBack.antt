@@ -1,4 +1,5 @@
 -- The workshop of the second demand: what the strict reads answer of a written frame. Assumes nothing.
+use Rattle.std.specs.Prelude.{Some}
 use mathlib.Core.Path.{◌≡◌, refl, sym, ap, ◌∙◌}
 use mathlib.Core.List.{List, ◌++◌}
 use Prim.Native.Nat.{ℕ, ◌+◌, ◌*◌, ◌≤◌, ◌<◌}
@@ -11,7 +12,6 @@ use Rattle.base.specs.Run.{tab}
 use Rattle.base.proofs.Picks.{both_hold}
 use Rattle.base.proofs.Runs.{length_tab}
 use Rattle.paper.specs.declared.System.{System}
-use Rattle.paper.specs.declared.SystemNumber.TheVariants.{Known}
 use Rattle.paper.specs.declared.AudioAnswer.{AudioAnswer}
 use Rattle.rules_format.specs.Systems.{positions_of, macroblocks_of, system_of}
 use Rattle.rules_format.specs.Samples.{number_of}
@@ -41,7 +41,7 @@ module _ (y : System) (l : Contents) (size : ℕ) (t : Takes y l size) where
   macroblock_lent : (b : ℕ) → b < macroblocks_of y → 77 * b + 77 ≤ length l.macroblocks
   macroblock_lent b h = omega (arith, t.pictures)
 
-  module _ (k : ℕ) (known : system_of k ≡ Known y) where
+  module _ (k : ℕ) (known : system_of k ≡ Some y) where
     -- ---- read_audio
 
     module _ (c : ℕ) (c1 : 0 < c) (c8 : c < 9) (samples : List ℤ) (room : length samples ≡ positions_of y) where

@@ -1,4 +1,5 @@
 -- The workshop of the third demand: what salvage gives of any frame of a written frame's length. Assumes nothing.
+use Rattle.std.specs.Prelude.{Some}
 use mathlib.Core.Path.{◌≡◌, refl, sym, ap, ◌∙◌, subst}
 use mathlib.Core.Bool.{true}
 use mathlib.Core.List.{List}
@@ -10,7 +11,6 @@ use lib.ListN.{length, get_or}
 use Rattle.base.proofs.Cases.{by_lt}
 use Rattle.base.proofs.Picks.{pick_true, pick_false}
 use Rattle.paper.specs.declared.System.{System}
-use Rattle.paper.specs.declared.SystemNumber.TheVariants.{Known}
 use Rattle.paper.specs.declared.Survey.{Survey}
 use Rattle.promises.specs.Demand3.{PositionOut, stored, block_of, SampleSalvaged, Salvages}
 use Rattle.rules_surveys.proofs.Salvaging.{position_out}
@@ -49,7 +49,7 @@ stored_says y l size takes c t c1 c8 =
 -- ---- salvage
 
 module _ {k : ℕ} {l : Contents} {frame f g : List ℕ} {samples samples' : List ℤ} {list list' : List ℕ} {r : Survey} (y : System)
-    (known : system_of k ≡ Known y) (wrote : Wrote k l frame 0 f) (same : length g ≡ length f) (space : length samples ≡ 8 * positions_of y)
+    (known : system_of k ≡ Some y) (wrote : Wrote k l frame 0 f) (same : length g ≡ length f) (space : length samples ≡ 8 * positions_of y)
     (rescued : Salvaged k g samples list r samples' list') where
   takes : Takes y l (length frame)
   takes = write_takes k y known l frame wrote

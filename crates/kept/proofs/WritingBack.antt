@@ -1,4 +1,5 @@
 -- The workshop of the second demand's writing half: what the writer made is laid out and reads back, and what meets that is its frame. Assumes nothing.
+use Rattle.std.specs.Prelude.{Some}
 use mathlib.Core.Path.{◌≡◌, sym, ◌∙◌, subst}
 use mathlib.Core.List.{List}
 use Prim.Native.Nat.{ℕ, ◌<◌}
@@ -6,7 +7,6 @@ use native.Mathlib.Omega.{arith}
 use lib.IntN.{ℤ}
 use lib.ListN.{length}
 use Rattle.paper.specs.declared.System.{System}
-use Rattle.paper.specs.declared.SystemNumber.TheVariants.{Known}
 use Rattle.rules_format.specs.Systems.{system_of}
 use Rattle.promises.specs.Contents.{Contents}
 use Rattle.rules_writes.specs.Write.{Wrote}
@@ -22,7 +22,7 @@ use Rattle.promises.proofs.LaidOut.{laid_out_one}
 
 module _ {k : ℕ} {l : Contents} {frame f : List ℕ} (wrote : Wrote k l frame 0 f) where
   -- what answers 0 was told a system
-  by_wrote : {P : Type 0} → ((y : System) → system_of k ≡ Known y → P) → P
+  by_wrote : {P : Type 0} → ((y : System) → system_of k ≡ Some y → P) → P
   by_wrote = by_system k (λ none. absurd (omega (arith, wrote.answer, write_1 k l (length frame) none)))
 
   pub writes_back : WritesBack StrictlyRead k l f

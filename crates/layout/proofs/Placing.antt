@@ -1,4 +1,5 @@
 -- The ways out of the place rule and back. Assumes nothing.
+use Rattle.std.specs.Prelude.{Some, None}
 use mathlib.Core.Path.{◌≡◌, refl, sym, ap, ◌∙◌}
 use Prim.Native.Nat.{ℕ, ◌+◌, ◌*◌, ◌-◌, ◌/◌, ◌%◌, ◌≤◌, ◌<◌}
 use native.Mathlib.Omega.{arith}
@@ -10,7 +11,6 @@ use Rattle.paper.specs.declared.Section.TheVariants.{Header, Subcode, Vaux, Audi
 use Rattle.paper.specs.declared.BlockNumber.{BlockNumber}
 use Rattle.paper.specs.declared.Place.{Place}
 use Rattle.paper.specs.declared.Entry.{Entry}
-use Rattle.paper.specs.declared.Found.TheVariants.{At, Nowhere}
 use Rattle.rules_format.specs.Places.{blocks_of, place, block, entry_at, place_in, place_for, place_of}
 use Rattle.rules_format.proofs.Places.{entry_past, entry_place_in, place_for_lem, place_for_past, place_in_below}
 
@@ -70,16 +70,16 @@ module _ (s : Section) (k : BlockNumber) (n : ℕ) (en : n ≡ blocks_of s) wher
 -- ---- place_of
 
 module _ (e : Entry) (p : Place) (ep : p ≡ place_for e.section e.number) where
-  pub nowhere_way : 150 ≤ p.0 → Nowhere ≡ place_of e
+  pub nowhere_way : 150 ≤ p.0 → None ≡ place_of e
   unfolding place_of
   nowhere_way h =
       by_lt e.number.0 (blocks_of e.section)
       (λ l. absurd (omega (arith, ap (λ (x : Place). x.0) (ep ∙ place_for_lem e.section e.number l), place_in_below e.section e.number.0 l)))
       (λ l. sym (pick_false _ _ (le-ltb _ _ l)))
 
-  pub at_way : p.0 < 150 → At p ≡ place_of e
+  pub at_way : p.0 < 150 → Some p ≡ place_of e
   unfolding place_of
   at_way h =
       by_lt e.number.0 (blocks_of e.section)
-      (λ l. ap At (ep ∙ place_for_lem e.section e.number l) ∙ sym (pick_true _ _ (lt-ltb _ _ l)))
+      (λ l. ap Some (ep ∙ place_for_lem e.section e.number l) ∙ sym (pick_true _ _ (lt-ltb _ _ l)))
       (λ l. absurd (omega (arith, ap (λ (x : Place). x.0) (ep ∙ place_for_past e.section e.number l))))

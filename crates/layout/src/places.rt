@@ -4,7 +4,7 @@ ghost use Rattle.rules_format.specs.Places.{code_of, section_of, blocks_of, entr
 ghost use Rattle.rules_format.specs.Judging.{printed_places, entry_of};
 
 use crate::PLACES;
-use paper::{BlockNumber, Entry, Found, Place, Section};
+use paper::{BlockNumber, Entry, Place, Section};
 
 // A section's number in an ID.
 pub fn section_code(s: Section) -> u32
@@ -155,13 +155,13 @@ pub fn place_in(section: Section, number: BlockNumber) -> Place
 
 // The same of an entry, nowhere where there is none. No call asks it yet: it is there for finding where a block belongs whose
 // place is not known.
-pub fn place_of(e: Entry) -> Found
+pub fn place_of(e: Entry) -> Option<Place>
     ensures { result ≡ place_of e }
 {
     let section = e.section;
     let p = place_in(section, e.number);
     if PLACES <= p.0 {
-        return Found::Nowhere;
+        return None;
     }
-    Found::At(p)
+    Some(p)
 }

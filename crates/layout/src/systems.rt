@@ -2,18 +2,18 @@
 ghost use Rattle.std.specs.Prelude.{◌≡◌, ◌*◌};
 ghost use Rattle.rules_format.specs.Systems.{sequences_of, half_of, positions_of, counts_of, is_count, macroblocks_of, rate_of, stype_of, system_of};
 
-use paper::{Counts, System, SystemNumber};
+use paper::{Counts, System};
 
 // A system by its number.
-pub fn system_of(number: u32) -> SystemNumber
+pub fn system_of(number: u32) -> Option<System>
     ensures { result ≡ system_of number }
 {
     match number {
-        0 => SystemNumber::Known(System::I60),
-        1 => SystemNumber::Known(System::I50),
-        2 => SystemNumber::Known(System::P60),
-        3 => SystemNumber::Known(System::P50),
-        _ => SystemNumber::NoSystem,
+        0 => Some(System::I60),
+        1 => Some(System::I50),
+        2 => Some(System::P60),
+        3 => Some(System::P50),
+        _ => None,
     }
 }
 

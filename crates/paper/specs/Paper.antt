@@ -1,12 +1,10 @@
 -- Document 01 in its own numbers and bytes, through none of the definitions that the library is built on: the words of the headlines.
 -- k is a system's number, n its sequences, f the bytes of a frame; h is a DIF channel, q a sequence of it, p a place; c is an audio channel,
 -- 1 to 8, and t a position of it.
-use Rattle.std.specs.Prelude.{Bool, false, not, ◌||◌, List, [], ◌∷◌, ℕ, ◌+◌, ◌-◌, ◌*◌, ◌/◌, ◌%◌, eqb, ltb, leb, ℤ, pos, negsuc, get_or, take, drop}
+use Rattle.std.specs.Prelude.{Bool, false, not, ◌||◌, List, [], ◌∷◌, ℕ, ◌+◌, ◌-◌, ◌*◌, ◌/◌, ◌%◌, eqb, ltb, leb, ℤ, pos, negsuc, get_or, take, drop, Option, Some, None}
 use Rattle.base.specs.Calls.{first_of, ◌when◌}
 use Rattle.base.specs.Pick.{pick}
 use Rattle.base.specs.Run.{run}
-use Rattle.paper.specs.declared.Carried.{Carried}
-use Rattle.paper.specs.declared.Carried.TheVariants.{Macroblock, Nothing}
 
 -- ---- "Each system brings its own four numbers.": the table's columns, for systems 0 to 3
 
@@ -225,8 +223,8 @@ eleven_rows h q g m = slot_number 11 h ((4 * h + (27 * q + g)) % 11) m ((27 * q 
 
 -- "Sequence 11 of channel 0 in system 1 is the edge unit: number 5,940 + 27m + g. Remaining slots (system 1: sequence 11 of channels 1-3; system 3:
 -- sequences 10, 11) carry none"
-unfoldable pub carried : ℕ → ℕ → ℕ → ℕ → ℕ → Carried
+unfoldable pub carried : ℕ → ℕ → ℕ → ℕ → ℕ → Option ℕ
 carried k h q g m =
     pick (eqb k 1)
-    (pick (ltb q 11) (Macroblock (eleven_rows h q g m)) (pick (eqb h 0) (Macroblock (5940 + 27 * m + g)) Nothing))
-    (pick (ltb q 10) (Macroblock (ten_rows h q g m)) Nothing)
+    (pick (ltb q 11) (Some (eleven_rows h q g m)) (pick (eqb h 0) (Some (5940 + 27 * m + g)) None))
+    (pick (ltb q 10) (Some (ten_rows h q g m)) None)

@@ -2,19 +2,12 @@
 #![tactic(auto)]
 
 // The four systems: 1080/60/I, 1080/50/I, 720/60/P and 720/50/P.
-#[derive(Clone, Copy)]
+#[derive(Clone, Copy, PartialEq, Eq)]
 pub enum System {
     I60,
     I50,
     P60,
     P50,
-}
-
-// What a system's number says. A number above 3 is no system.
-#[derive(Clone, Copy)]
-pub enum SystemNumber {
-    Known(System),
-    NoSystem,
 }
 
 // The sample counts of a system: two at 60 Hz, one at 50 Hz, where both fields have it.
@@ -25,7 +18,7 @@ pub struct Counts {
 }
 
 // The five sections of a sequence.
-#[derive(Clone, Copy)]
+#[derive(Clone, Copy, PartialEq, Eq)]
 pub enum Section {
     Header,
     Subcode,
@@ -35,11 +28,11 @@ pub enum Section {
 }
 
 // A DBN: the number of a block in its section.
-#[derive(Clone, Copy)]
+#[derive(Clone, Copy, PartialEq, Eq)]
 pub struct BlockNumber(pub u32);
 
 // One of the 150 places of a sequence.
-#[derive(Clone, Copy)]
+#[derive(Clone, Copy, PartialEq, Eq)]
 pub struct Place(pub u32);
 
 // What stands at a place: a section, and a block's number in it.
@@ -47,13 +40,6 @@ pub struct Place(pub u32);
 pub struct Entry {
     pub section: Section,
     pub number: BlockNumber,
-}
-
-// Where a section's block stands. A number past the section's blocks stands nowhere.
-#[derive(Clone, Copy)]
-pub enum Found {
-    At(Place),
-    Nowhere,
 }
 
 // What an ID names.
@@ -94,6 +80,31 @@ pub struct IdValues {
     pub reserved: u32,
 }
 
+// Why a call refuses, and what is wrong with a block, each with document 01's number.
+#[derive(Clone, Copy, PartialEq, Eq)]
+pub enum Cause {
+    NoSystem = 1,
+    FrameLength = 2,
+    OutsideSystem = 3,
+    LentLength = 4,
+    ReservedSection = 11,
+    OtherSection = 12,
+    OtherChannel = 13,
+    OtherDseq = 14,
+    OtherDbn = 15,
+    DsfDisagrees = 21,
+    VsDisagrees = 22,
+    Flagged = 23,
+    AsBreaksRules = 24,
+    AsDiffers = 25,
+    SubcodeBreaksRules = 26,
+    SubcodeDiffers = 27,
+    NotTheCount = 29,
+    NoSample = 31,
+    TimeBreaksRules = 32,
+    Unrecorded = 33,
+}
+
 // A survey record: where a block stands that does not name its place, and its fault.
 #[derive(Clone, Copy)]
 pub struct Fault {
@@ -122,7 +133,7 @@ pub struct Part {
 }
 
 // A pack: its header PC0 and four bytes.
-#[derive(Clone, Copy)]
+#[derive(Clone, Copy, PartialEq, Eq)]
 pub struct Pack {
     pub pc0: u8,
     pub pc1: u8,
@@ -162,33 +173,12 @@ pub enum Sample {
     Lost,
 }
 
-// What a number of a lent slice says. A number outside -32,768 to 32,768 is no sample.
-#[derive(Clone, Copy)]
-pub enum SampleNumber {
-    Sampled(Sample),
-    NoSample,
-}
-
 // A picture slot: a video block of a sequence of a DIF channel.
-#[derive(Clone, Copy)]
+#[derive(Clone, Copy, PartialEq, Eq)]
 pub struct Slot {
     pub channel: u32,
     pub sequence: u32,
     pub video: BlockNumber,
-}
-
-// What a slot carries: a macroblock by its number, or none.
-#[derive(Clone, Copy)]
-pub enum Carried {
-    Macroblock(u32),
-    Nothing,
-}
-
-// Where a macroblock lies. A number past the system's macroblocks lies in no slot.
-#[derive(Clone, Copy)]
-pub enum Carrier {
-    In(Slot),
-    NoSlot,
 }
 
 // What an audio read answers.

@@ -6,7 +6,7 @@ ghost use Rattle.rules_picture.specs.Picture.{slot, step_of, column_of, macroblo
 ghost use Rattle.rules_picture.specs.Picture.{eleven_found, carrier_of};
 ghost use Rattle.picture.specs.Ruled.{Ruled};
 
-use paper::{BlockNumber, Carried, Carrier, Slot, System};
+use paper::{BlockNumber, Slot, System};
 
 // The row's step and the column of unit m.
 fn step(m: u32) -> u32
@@ -57,7 +57,7 @@ fn number(row: u32, column: u32, k: u32) -> u32
     (row * 5 + column) * 27 + k
 }
 
-fn ten_carries(h: u32, q: u32, video: BlockNumber) -> Carried
+fn ten_carries(h: u32, q: u32, video: BlockNumber) -> Option<u32>
     requires { (h < 4) × (video.0 < 135) }
     ensures { result ≡ ten_carries h q video.0 }
 {
@@ -66,13 +66,13 @@ fn ten_carries(h: u32, q: u32, video: BlockNumber) -> Carried
         let m = v % 5;
         let z = 27 * q + v / 5;
         let row = ((4 * h + q / 5 + 2 * z) % 10 + step(m)) % 10;
-        return Carried::Macroblock(number(10 * h + row, column(m), z / 5 % 27));
+        return Some(number(10 * h + row, column(m), z / 5 % 27));
     }
-    Carried::Nothing
+    None
 }
 
 // Eleven rows, then the edge unit in sequence 11 of DIF channel 0.
-fn eleven_carries(h: u32, q: u32, video: BlockNumber) -> Carried
+fn eleven_carries(h: u32, q: u32, video: BlockNumber) -> Option<u32>
     requires { (h < 4) × (video.0 < 135) }
     ensures { result ≡ eleven_carries h q video.0 }
 {
@@ -81,15 +81,15 @@ fn eleven_carries(h: u32, q: u32, video: BlockNumber) -> Carried
         let m = v % 5;
         let z = 27 * q + v / 5;
         let row = ((4 * h + z) % 11 + step(m)) % 11;
-        return Carried::Macroblock(number(11 * h + row, column(m), z / 11));
+        return Some(number(11 * h + row, column(m), z / 11));
     }
     if q == 11 {
         if h == 0 {
-            return Carried::Macroblock(5940 + 27 * (v % 5) + v / 5);
+            return Some(5940 + 27 * (v % 5) + v / 5);
         }
-        return Carried::Nothing;
+        return None;
     }
-    Carried::Nothing
+    None
 }
 
 // "720/50 has ten rows", as the systems of 60 Hz.
@@ -104,7 +104,7 @@ fn eleven_rows(y: System) -> bool
     }
 }
 
-fn rows(y: System, h: u32, q: u32, video: BlockNumber) -> Carried
+fn rows(y: System, h: u32, q: u32, video: BlockNumber) -> Option<u32>
     requires { (h < 4) × (video.0 < 135) }
     ensures { result ≡ carries_of y h q video.0 }
 {
@@ -115,16 +115,16 @@ fn rows(y: System, h: u32, q: u32, video: BlockNumber) -> Carried
 }
 
 // What the slot of a video block of sequence q of DIF channel h carries.
-pub fn carried(y: System, h: u32, q: u32, video: BlockNumber) -> Carried
+pub fn carried(y: System, h: u32, q: u32, video: BlockNumber) -> Option<u32>
     ensures { result ≡ carried_in y (slot h q video.0) }
 {
     if h < 4 {
         if video.0 < 135 {
             return rows(y, h, q, video);
         }
-        return Carried::Nothing;
+        return None;
     }
-    Carried::Nothing
+    None
 }
 
 // V(5g+m) of the sequence q, with z = 27q + g.
@@ -139,39 +139,39 @@ fn slot_at(h: u32, z: u32, m: u32) -> Slot
     }
 }
 
-fn ten_found(b: u32) -> Carrier
+fn ten_found(b: u32) -> Option<Slot>
     ensures { result ≡ ten_found b }
 {
     if b < 5400 {
         let m = unit(b / 27 % 5);
         let order = ((b / 135 % 10 + 10 - step(m)) % 10 + 6 * (b / 1350)) % 10;
         let z = 135 * (order % 2) + 5 * (b % 27) + order / 2;
-        return Carrier::In(slot_at(b / 1350, z, m));
+        return Some(slot_at(b / 1350, z, m));
     }
-    Carrier::NoSlot
+    None
 }
 
-fn eleven_found(b: u32) -> Carrier
+fn eleven_found(b: u32) -> Option<Slot>
     ensures { result ≡ eleven_found b }
 {
     if b < 5940 {
         let m = unit(b / 27 % 5);
         let z = 11 * (b % 27) + ((b / 135 % 11 + 11 - step(m)) % 11 + 7 * (b / 1485)) % 11;
-        return Carrier::In(slot_at(b / 1485, z, m));
+        return Some(slot_at(b / 1485, z, m));
     }
     if b < 6075 {
         let e = b - 5940;
-        return Carrier::In(Slot {
+        return Some(Slot {
             channel: 0,
             sequence: 11,
             video: BlockNumber(5 * (e % 27) + e / 27),
         });
     }
-    Carrier::NoSlot
+    None
 }
 
 // The slot of macroblock b.
-pub fn carrier(y: System, b: u32) -> Carrier
+pub fn carrier(y: System, b: u32) -> Option<Slot>
     ensures { result ≡ carrier_of y b }
 {
     if eleven_rows(y) {

@@ -1,4 +1,5 @@
 -- What two frames that are alike but for the sound have in common, in the refusal tables and in what is read. No contract is asked. Assumes nothing.
+use Rattle.std.specs.Prelude.{Some}
 use mathlib.Core.Path.{◌≡◌, refl, sym, ap, ◌∙◌}
 use mathlib.Core.Bool.{not}
 use mathlib.Core.List.{List, [], ◌∷◌}
@@ -17,13 +18,12 @@ use Rattle.base.proofs.Cases.{by_lt, by_eq}
 use Rattle.base.proofs.Picks.{pick_either}
 use Rattle.base.proofs.Runs.{run_same, tab_part, tab_same}
 use Rattle.paper.specs.declared.System.{System}
-use Rattle.paper.specs.declared.SystemNumber.TheVariants.{Known}
 use Rattle.paper.specs.declared.Survey.{Survey}
 use Rattle.paper.specs.Paper.{sequences, positions, start, byte_at, bytes_at, section_at, figure3, fault, stream_fault, records, sound_channel, sound_first, sound_index}
 use Rattle.paper.specs.Paper.{sound_word, sample_by, count_by, count_said, mode_said, vs_pack, vaux_place, vaux_byte, ssyb_place, ssyb_byte}
 use Rattle.paper.specs.Paper.{slot_place}
 use Rattle.paper.specs.Bytes.{compared}
-use Rattle.promises.specs.Refusals.{Table, ◌if◌, ◌else◌, none, FirstFault, Some, WrongDsf, VsDisagrees, Flagged, vs_byte, SomeInHalf, as_byte, AsBreaks}
+use Rattle.promises.specs.Refusals.{Table, ◌if◌, ◌else◌, none, FirstFault, SomeInFrame, WrongDsf, VsDisagrees, Flagged, vs_byte, SomeInHalf, as_byte, AsBreaks}
 use Rattle.promises.specs.Refusals.{ssyb_at, WrongFirst, Differs, DifferInHalf, AsDiffer, checked, sounded, audio_table}
 use Rattle.promises.specs.Refusals.{OwnFault, survey_table, salvage_table, view_table, check_table, macroblock_table, time_table, list_table, replace_table, count_stored, mode_stored}
 use Rattle.promises.specs.Refusals.WrongFirst.{wrong_time_header, wrong_digit, wrong_group_header}
@@ -158,7 +158,7 @@ vs_place q = pick_either (λ (j : ℕ). vaux_place j < 6) _ (omega arith) (omega
 vs_byte_lem : (q i : ℕ) → i < 5 → vaux_byte (vs_pack q) + i < 80
 vs_byte_lem q i h = omega arith
 
-pub some_to : {n : ℕ} {Is Is' : ℕ → ℕ → Type 0} → ((h q : ℕ) → h < 4 → q < n → Is h q → Is' h q) → Some n Is → Some n Is'
+pub some_to : {n : ℕ} {Is Is' : ℕ → ℕ → Type 0} → ((h q : ℕ) → h < 4 → q < n → Is h q → Is' h q) → SomeInFrame n Is → SomeInFrame n Is'
 some_to to s = record { h = s.h; q = s.q; channel = s.channel; sequence = s.sequence; is = to s.h s.q s.channel s.sequence s.is }
 
 module _ {k : ℕ} {f g : List ℕ} (s : Alike k f g) where
@@ -171,10 +171,10 @@ module _ {k : ℕ} {f g : List ℕ} (s : Alike k f g) where
     some = a.some;
   }
 
-  dsf_to : Some (sequences k) (WrongDsf k f) → Some (sequences k) (WrongDsf k g)
+  dsf_to : SomeInFrame (sequences k) (WrongDsf k f) → SomeInFrame (sequences k) (WrongDsf k g)
   dsf_to = some_to (λ h q hh hq d z. d (rw (low_same s h q 0 3 hh hq (omega arith) (omega arith) (omega arith)) at z))
 
-  vs_to : Some (sequences k) (VsDisagrees k f) → Some (sequences k) (VsDisagrees k g)
+  vs_to : SomeInFrame (sequences k) (VsDisagrees k f) → SomeInFrame (sequences k) (VsDisagrees k g)
   vs_to =
       some_to (λ h q hh hq v.
       let byte : (i : ℕ) → i < 5 → vs_byte (sequences k) g h q i ≡ vs_byte (sequences k) f h q i =
@@ -185,7 +185,7 @@ module _ {k : ℕ} {f g : List ℕ} (s : Alike k f g) where
       })
 
   -- 23, by byte 5, 6 or 7 of a header
-  pub flag_to : (i : ℕ) → 3 ≤ i → i < 80 → Some (sequences k) (Flagged i (sequences k) f) → Some (sequences k) (Flagged i (sequences k) g)
+  pub flag_to : (i : ℕ) → 3 ≤ i → i < 80 → SomeInFrame (sequences k) (Flagged i (sequences k) f) → SomeInFrame (sequences k) (Flagged i (sequences k) g)
   flag_to i low hi = some_to (λ h q hh hq e. ap (λ (x : ℕ). x / 128) (low_same s h q 0 i hh hq (omega arith) low hi) ∙ e)
 
 pub checked_gives : {k : ℕ} {f g : List ℕ} {rows rows' : Table} {r : ℕ} → Alike k f g → Gives r rows rows' → Gives r (checked k f rows) (checked k g rows')
@@ -212,7 +212,7 @@ pub record SameWords (k : ℕ) (f g : List ℕ) (c : ℕ) : Type 0 where
   pub word : (t : ℕ) → t < positions k → sound_word (sequences k) g c t ≡ sound_word (sequences k) f c t
 
 -- a position says a known system
-by_position : {P : Type 0} (k : ℕ) {t : ℕ} → t < positions k → ((y : System) → system_of k ≡ Known y → P) → P
+by_position : {P : Type 0} (k : ℕ) {t : ℕ} → t < positions k → ((y : System) → system_of k ≡ Some y → P) → P
 by_position k ht found =
     by_lt k 4 (λ below. known_system k below found)
     (λ above. let none : positions k ≡ 0 = get_or-eq_default {A = ℕ} (1620 ∷ 1944 ∷ 1620 ∷ 1944 ∷ []) 0 above in absurd (omega (arith, ht, none)))
@@ -380,7 +380,7 @@ before_as k f c room rows =
     else 2 if (length f ≢ 48000 * sequences k)
     else 3 if ((c ≡ 0) ⊎ (8 < c))
     else 4 if (room ≢ positions k)
-    else checked k f (23 if Some (sequences k) (Flagged 5 (sequences k) f) else rows)
+    else checked k f (23 if SomeInFrame (sequences k) (Flagged 5 (sequences k) f) else rows)
 
 pub audio_leads : {k : ℕ} {f g : List ℕ} {c room r : ℕ} {rows rows' : Table} → Alike k f g → Leads r rows rows'
     → Leads r (before_as k f c room rows) (before_as k g c room rows')

@@ -1,5 +1,6 @@
 -- The workshop of "A new commentary channel in a finished frame": what follows from the bytes that are exchanged, by document 01's numbers alone.
 -- Assumes nothing.
+use Rattle.std.specs.Prelude.{Some}
 use mathlib.Core.Path.{◌≡◌, refl, sym, ap₂, ◌∙◌}
 use mathlib.Core.List.{List}
 use mathlib.Core.Logic.{◌≢◌}
@@ -14,7 +15,6 @@ use Rattle.base.proofs.Below.{below_means, by_below}
 use Rattle.base.proofs.Cases.{by_lt, by_eq}
 use Rattle.base.proofs.Parts.{digit_one}
 use Rattle.paper.specs.declared.System.{System}
-use Rattle.paper.specs.declared.SystemNumber.TheVariants.{Known}
 use Rattle.paper.specs.Paper.{sequences, positions, section_at, figure3, sound_index, sound_start, sound_word, word_by}
 use Rattle.promises.specs.Refusals.{count_stored}
 use Rattle.promises.specs.Unrecorded.{SameButAudio}
@@ -63,7 +63,7 @@ audio_section : (a : ℕ) → a < 9 → section_at (6 + 16 * a) ≡ 3
 unfolding figure3
 audio_section a h = eqb-true _ _ (below_means (λ (i : ℕ). eqb (section_at (6 + 16 * i)) 3) 9 refl a h)
 
-module _ {k : ℕ} {f : List ℕ} {c : ℕ} {samples : List ℤ} {g : List ℕ} (x : Exchanged k f c samples g) (y : System) (known : system_of k ≡ Known y) (c1 : 0 < c) (c8 : c < 9)
+module _ {k : ℕ} {f : List ℕ} {c : ℕ} {samples : List ℤ} {g : List ℕ} (x : Exchanged k f c samples g) (y : System) (known : system_of k ≡ Some y) (c1 : 0 < c) (c8 : c < 9)
     (few : count_stored k f c ≤ positions k) where
   abbrev n : ℕ
   n = sequences k

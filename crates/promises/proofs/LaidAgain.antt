@@ -1,4 +1,5 @@
 -- A frame that is laid out of contents, with one audio channel exchanged, is laid out of the changed contents. Assumes nothing.
+use Rattle.std.specs.Prelude.{Some}
 use mathlib.Core.Path.{◌≡◌, refl, sym, ap, ap₂, ◌∙◌}
 use mathlib.Core.List.{List}
 use mathlib.Core.Logic.{◌≢◌}
@@ -12,7 +13,6 @@ use Rattle.base.specs.Pick.{pick}
 use Rattle.base.proofs.Cases.{by_eq}
 use Rattle.base.proofs.Picks.{pick_either}
 use Rattle.paper.specs.declared.System.{System}
-use Rattle.paper.specs.declared.SystemNumber.TheVariants.{Known}
 use Rattle.paper.specs.Paper.{sequences, positions, byte_at, sound_channel, sound_first, word_by, count_by, count_said, as_pack, as_place, slot_place}
 use Rattle.paper.specs.Bytes.{half_in, ssyb_form, aaux_form}
 use Rattle.promises.specs.Contents.{Contents}
@@ -66,7 +66,7 @@ form_count {k} form below c c8 =
 
 -- ---- HasForm, LaidOut: the frame after
 
-module _ {k : ℕ} {f : List ℕ} {c : ℕ} {samples : List ℤ} {g : List ℕ} (x : Exchanged k f c samples g) (y : System) (known : system_of k ≡ Known y) (c1 : 0 < c) (c8 : c < 9)
+module _ {k : ℕ} {f : List ℕ} {c : ℕ} {samples : List ℤ} {g : List ℕ} (x : Exchanged k f c samples g) (y : System) (known : system_of k ≡ Some y) (c1 : 0 < c) (c8 : c < 9)
     (few : count_stored k f c ≤ positions k) (form : HasForm k f) where
   abbrev n : ℕ
   n = sequences k
@@ -132,7 +132,7 @@ module _ {k : ℕ} {f : List ℕ} {c : ℕ} {samples : List ℤ} {g : List ℕ} 
     empty = λ h q u m hh hq hu hm e. slots h q u m hh hq hu hm ∙ form.empty h q u m hh hq hu hm e;
   }
 
-pub laid_again : {k : ℕ} {l l' : Contents} {f : List ℕ} {c : ℕ} {samples : List ℤ} {g : List ℕ} → Exchanged k f c samples g → (y : System) → system_of k ≡ Known y → 0 < c → c < 9
+pub laid_again : {k : ℕ} {l l' : Contents} {f : List ℕ} {c : ℕ} {samples : List ℤ} {g : List ℕ} → Exchanged k f c samples g → (y : System) → system_of k ≡ Some y → 0 < c → c < 9
     → count_stored k f c ≤ positions k → LaidOut k l f → Changed l c samples l' → LaidOut k l' g
 laid_again {k} {l} {l'} {f} {c} {samples} {g} x y known c1 c8 few laid changed =
     let form = laid.form in

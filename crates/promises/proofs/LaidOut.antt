@@ -1,4 +1,5 @@
 -- What document 01 lays down of what is lent leaves one frame: it says every byte. Assumes nothing.
+use Rattle.std.specs.Prelude.{Option, Some, None}
 use mathlib.Core.Path.{◌≡◌, refl, sym, ap, ◌∙◌, subst, ap₂}
 use mathlib.Core.Logic.{⊎_elim}
 use mathlib.Core.List.{List}
@@ -12,11 +13,8 @@ use Rattle.base.specs.Pick.{pick}
 use Rattle.base.proofs.Cases.{by_lt, by_eq}
 use Rattle.base.proofs.Parts.{part_part}
 use Rattle.paper.specs.declared.System.{System}
-use Rattle.paper.specs.declared.SystemNumber.TheVariants.{Known}
 use Rattle.paper.specs.declared.Section.{Section}
 use Rattle.paper.specs.declared.Section.TheVariants.{Header, Subcode, Vaux, Audio, Video}
-use Rattle.paper.specs.declared.Carried.{Carried}
-use Rattle.paper.specs.declared.Carried.TheVariants.{Macroblock, Nothing}
 use Rattle.rules_format.specs.Systems.{sequences_of, half_of, system_of}
 use Rattle.rules_format.specs.Places.{blocks_of, place_in, place, entry_at}
 use Rattle.rules_format.specs.Sound.{half_at, audio_at, rank_at, sample_at}
@@ -57,7 +55,7 @@ size_back x d =
 
 -- ---- two frames
 
-module _ (k : ℕ) (y : System) (known : system_of k ≡ Known y) (l : Contents) (f g : List ℕ) (a : LaidOut k l f) (b : LaidOut k l g) where
+module _ (k : ℕ) (y : System) (known : system_of k ≡ Some y) (l : Contents) (f g : List ℕ) (a : LaidOut k l f) (b : LaidOut k l g) where
   abbrev n : ℕ
   n = sequences k
 
@@ -152,9 +150,9 @@ module _ (k : ℕ) (y : System) (known : system_of k ≡ Known y) (l : Contents)
 
   -- ---- picture
 
-  same_slot : (h q u m : ℕ) → h < 4 → q < n → u < 27 → m < 5 → (c : Carried) → carried k h q u m ≡ c → cut k f h q (slot_place (5 * u + m)) 3 77 ≡ cut k g h q (slot_place (5 * u + m)) 3 77
-  same_slot h q u m hh hq hu hm (Macroblock v) e = a.macroblock h q u m v hh hq hu hm e ∙ sym (b.macroblock h q u m v hh hq hu hm e)
-  same_slot h q u m hh hq hu hm Nothing e = a.form.empty h q u m hh hq hu hm e ∙ sym (b.form.empty h q u m hh hq hu hm e)
+  same_slot : (h q u m : ℕ) → h < 4 → q < n → u < 27 → m < 5 → (c : Option ℕ) → carried k h q u m ≡ c → cut k f h q (slot_place (5 * u + m)) 3 77 ≡ cut k g h q (slot_place (5 * u + m)) 3 77
+  same_slot h q u m hh hq hu hm (Some v) e = a.macroblock h q u m v hh hq hu hm e ∙ sym (b.macroblock h q u m v hh hq hu hm e)
+  same_slot h q u m hh hq hu hm None e = a.form.empty h q u m hh hq hu hm e ∙ sym (b.form.empty h q u m hh hq hu hm e)
 
   -- ---- all
 

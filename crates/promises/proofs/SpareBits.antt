@@ -1,5 +1,6 @@
 -- The workshop of "What did the spare bits say?": an ID is told back from its answer, and what two frames that differ in spare bits alone have in common,
 -- by document 01's numbers alone. Assumes nothing.
+use Rattle.std.specs.Prelude.{Some}
 use mathlib.Core.Path.{◌≡◌, refl, sym, ap, ◌∙◌}
 use mathlib.Core.List.{List, [], ◌∷◌}
 use mathlib.Core.Logic.{◌≢◌}
@@ -14,7 +15,6 @@ use Rattle.base.proofs.Below.{below_at, below_means}
 use Rattle.base.proofs.Cases.{by_lt, by_eq}
 use Rattle.base.proofs.Parts.{length_part}
 use Rattle.paper.specs.declared.System.{System}
-use Rattle.paper.specs.declared.SystemNumber.TheVariants.{Known}
 use Rattle.paper.specs.declared.IdAnswer.{IdAnswer}
 use Rattle.paper.specs.declared.IdAnswer.TheVariants.{Reserved}
 use Rattle.paper.specs.declared.IdValues.{IdValues}
@@ -244,7 +244,7 @@ spare_block {m} {f} {g} s j hj fits = record {
     nought = omega arith
 
 module _ {m k : ℕ} {f g : List ℕ} {c : ℕ} {samples : List ℤ} {f' g' : List ℕ} (s : SameButSpare m f g) (x : Exchanged k f c samples f')
-    (x' : Exchanged k g c samples g') (y : System) (known : system_of k ≡ Known y) (c1 : 0 < c) (c8 : c < 9) (few : count_stored k f c ≤ positions k)
+    (x' : Exchanged k g c samples g') (y : System) (known : system_of k ≡ Some y) (c1 : 0 < c) (c8 : c < 9) (few : count_stored k f c ≤ positions k)
     (few' : count_stored k g c ≤ positions k) where
   first_kept : (j : ℕ) → (get_or f' (j * 80) 0 ≡ get_or f (j * 80) 0) × (get_or g' (j * 80) 0 ≡ get_or g (j * 80) 0)
   first_kept j =

@@ -1,4 +1,5 @@
 -- Laws of refusal tables: a table gives exactly the number that a list of tests comes to. Assumes nothing.
+use Rattle.std.specs.Prelude.{Option, Some, None}
 use mathlib.Core.Path.{◌≡◌, refl, sym, subst, ◌∙◌, ap}
 use mathlib.Core.Bool.{Bool, true, false, not}
 use mathlib.Core.List.{List, [], ◌∷◌}
@@ -13,8 +14,6 @@ use Rattle.base.specs.Calls.{Refusal, first_of, ◌when◌}
 use Rattle.base.proofs.Cases.{by_bool, by_eq, clash}
 use Rattle.base.proofs.Picks.{both_held, first_here, first_next}
 use Rattle.paper.specs.declared.System.{System}
-use Rattle.paper.specs.declared.SystemNumber.{SystemNumber}
-use Rattle.paper.specs.declared.SystemNumber.TheVariants.{Known, NoSystem}
 use Rattle.rules_format.specs.Systems.{system_of, is_no_system, sequences_of}
 use Rattle.rules_format.specs.Samples.{in_range, all_in_range}
 use Rattle.promises.specs.Refusals.{Table, ◌if◌, ◌else◌, none, Outside, SomeOutside}
@@ -92,24 +91,24 @@ row_fault row table x rows given one rest =
     on d = rw (ne_eqb x 0 d) refl
 
 -- 1: "system above 3"
-pub row_system : (k : ℕ) (table : Table) (rows : SystemNumber → List Refusal) → ((y : System) → system_of k ≡ Known y → Exactly table (first_of (rows (Known y))))
+pub row_system : (k : ℕ) (table : Table) (rows : Option System → List Refusal) → ((y : System) → system_of k ≡ Some y → Exactly table (first_of (rows (Some y))))
     → Exactly (1 if (3 < k) else table) (first_of (1 when is_no_system (system_of k) ∷ rows (system_of k)))
 row_system k table rows rest = by_number (system_of k) refl
   where
-    no_true : is_no_system NoSystem ≡ false → ⊥
+    no_true : is_no_system None ≡ false → ⊥
     no_true t = let z : ◌≡◌ {A = ℕ} 0 1 = cc in omega arith
 
-    no_false : (y : System) → is_no_system (Known y) ≡ true → ⊥
+    no_false : (y : System) → is_no_system (Some y) ≡ true → ⊥
     no_false y t = let z : ◌≡◌ {A = ℕ} 0 1 = cc in omega arith
 
-    by_number : (s : SystemNumber) → system_of k ≡ s → Exactly (1 if (3 < k) else table) (first_of (1 when is_no_system s ∷ rows s))
-    by_number (Known y) e = row_exactly 1 (is_no_system (Known y)) table (rows (Known y)) (λ t. absurd (no_false y t)) (λ t above. omega (arith, known_below k y e)) (λ t. rest y e)
-    by_number NoSystem e =
-        row_exactly 1 (is_no_system NoSystem) table (rows NoSystem)
+    by_number : (s : Option System) → system_of k ≡ s → Exactly (1 if (3 < k) else table) (first_of (1 when is_no_system s ∷ rows s))
+    by_number (Some y) e = row_exactly 1 (is_no_system (Some y)) table (rows (Some y)) (λ t. absurd (no_false y t)) (λ t above. omega (arith, known_below k y e)) (λ t. rest y e)
+    by_number None e =
+        row_exactly 1 (is_no_system None) table (rows None)
         (λ t. none_above k e) (λ t. absurd (no_true t)) (λ t. absurd (no_true t))
 
 -- 2: "frame length is not 48,000·n"
-pub row_length : (k : ℕ) (y : System) → system_of k ≡ Known y → (size : ℕ) (table : Table) (rows : List Refusal) → (size ≡ 48000 * sequences_of y → Exactly table (first_of rows))
+pub row_length : (k : ℕ) (y : System) → system_of k ≡ Some y → (size : ℕ) (table : Table) (rows : List Refusal) → (size ≡ 48000 * sequences_of y → Exactly table (first_of rows))
     → Exactly (2 if (size ≢ 48000 * sequences k) else table) (first_of (2 when not (eqb size (48000 * sequences_of y)) ∷ rows))
 row_length k y known size table rows rest =
     row_differs 2 size (48000 * sequences_of y) (48000 * sequences k) table rows (ap (λ (n : ℕ). 48000 * n) (columns k y known).sequences_is) rest

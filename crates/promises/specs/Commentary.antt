@@ -1,8 +1,7 @@
 -- The customer's request "A new commentary channel in a finished frame": what the call leaves of a frame that it takes. k is a system's number, f the frame
 -- before and g after; c is an audio channel, 1 to 8, samples are its new samples, t is a position of it.
-use Rattle.std.specs.Prelude.{◌≡◌, List, ◌≢◌, ℕ, ◌+◌, ◌-◌, ◌*◌, ◌/◌, ◌%◌, ◌≤◌, ◌<◌, ℤ, pos, length, get_or, take, drop}
+use Rattle.std.specs.Prelude.{◌≡◌, List, ◌≢◌, ℕ, ◌+◌, ◌-◌, ◌*◌, ◌/◌, ◌%◌, ◌≤◌, ◌<◌, ℤ, pos, length, get_or, take, drop, Some}
 use Rattle.paper.specs.declared.AudioAnswer.{AudioAnswer}
-use Rattle.paper.specs.declared.Carried.TheVariants.{Macroblock}
 use Rattle.paper.specs.Paper.{sequences, positions, macroblocks, bytes_at, sound_start, sound_word, sample_by, word_by, back, count_said, slot_place, carried}
 use Rattle.promises.specs.Contents.{Contents}
 use Rattle.promises.specs.Demand2.{given, AudioOut}
@@ -51,7 +50,7 @@ pub record FrameHolds (k : ℕ) (f : List ℕ) (l : Contents) : Type 0 where
   pub sounds : length l.sound ≡ 8 * l.count
   pub sample : (c t : ℕ) → 0 < c → c < 9 → t < l.count → given l c t ≡ sample_by (sound_word (sequences k) f c t)
   pub pictures : length l.macroblocks ≡ 77 * macroblocks k
-  pub macroblock : (h q g m b : ℕ) → h < 4 → q < sequences k → g < 27 → m < 5 → carried k h q g m ≡ Macroblock b
+  pub macroblock : (h q g m b : ℕ) → h < 4 → q < sequences k → g < 27 → m < 5 → carried k h q g m ≡ Some b
       → take 77 (drop (77 * b) l.macroblocks) ≡ bytes_at (sequences k) f h q (slot_place (5 * g + m)) 3 77
   pub time : l.time_code ≡ bytes_at (sequences k) f 0 0 1 31 4
   pub group : l.binary_group ≡ bytes_at (sequences k) f 0 0 1 39 4

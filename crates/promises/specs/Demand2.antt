@@ -1,6 +1,6 @@
 -- The customer's second demand, clause by clause under his own words. k is a system's number, f a frame, l what is lent to the writer; h is a DIF channel,
 -- q a sequence of it; c is an audio channel, 1 to 8, and t a position of it.
-use Rattle.std.specs.Prelude.{◌≡◌, List, [], ◌∷◌, ◌≢◌, ℕ, ◌+◌, ◌-◌, ◌*◌, ◌/◌, ◌%◌, ◌≤◌, ◌<◌, ℤ, pos, length, get_or, take, drop, replicate}
+use Rattle.std.specs.Prelude.{◌≡◌, List, [], ◌∷◌, ◌≢◌, ℕ, ◌+◌, ◌-◌, ◌*◌, ◌/◌, ◌%◌, ◌≤◌, ◌<◌, ℤ, pos, length, get_or, take, drop, replicate, Some}
 use Rattle.paper.specs.declared.Section.TheVariants.{Header, Subcode, Vaux, Audio, Video}
 use Rattle.paper.specs.declared.Place.{Place}
 use Rattle.paper.specs.declared.IdAnswer.{IdAnswer}
@@ -9,7 +9,6 @@ use Rattle.paper.specs.declared.IdValues.{IdValues}
 use Rattle.paper.specs.declared.Part.{Part}
 use Rattle.paper.specs.declared.AudioAnswer.{AudioAnswer}
 use Rattle.paper.specs.declared.TimeAnswer.{TimeAnswer}
-use Rattle.paper.specs.declared.Carried.TheVariants.{Macroblock}
 use Rattle.rules_format.specs.Ids.{id_values}
 use Rattle.promises.specs.Contents.{Contents}
 use Rattle.paper.specs.Paper.{sequences, positions, macroblocks, start, byte_at, bytes_at, channel_by, sound_start, sound_word, sample_by}
@@ -52,7 +51,7 @@ pub record ViewOut (k : ℕ) (f : List ℕ) (h q : ℕ) (p : Place) (number : �
 
 -- a macroblock by start and length: behind the ID of the slot V(5g+m) which carries it
 pub record MacroblockOut (k : ℕ) (f : List ℕ) (b : ℕ) (r : Part) : Type 0 where
-  pub lies : r.number ≡ 0 → (h q g m : ℕ) → h < 4 → q < sequences k → g < 27 → m < 5 → carried k h q g m ≡ Macroblock b
+  pub lies : r.number ≡ 0 → (h q g m : ℕ) → h < 4 → q < sequences k → g < 27 → m < 5 → carried k h q g m ≡ Some b
       → r ≡ record { number = 0; start = start (sequences k) h q (slot_place (5 * g + m)) + 3; length = 77 }
 
 -- what the strict reads answer of a frame: the check, audio channel c, macroblock b, the time code
@@ -75,7 +74,7 @@ pub record ReadOut (k : ℕ) (f : List ℕ) (c : ℕ) (samples : List ℤ) (b : 
   pub rest : o.audio.number ≡ 0 → drop o.audio.count o.samples ≡ drop o.audio.count samples
   pub size : length o.samples ≡ length samples
   -- "and each compressed macroblock": that of the slot V(5g+m) which carries it
-  pub macroblock : o.number ≡ 0 → (h q g m : ℕ) → h < 4 → q < sequences k → g < 27 → m < 5 → carried k h q g m ≡ Macroblock b
+  pub macroblock : o.number ≡ 0 → (h q g m : ℕ) → h < 4 → q < sequences k → g < 27 → m < 5 → carried k h q g m ≡ Some b
       → o.part ≡ bytes_at (sequences k) f h q (slot_place (5 * g + m)) 3 77
   -- SSYB 3 and 4 of DIF channel 0, sequence 0, in SC0: their packs stand from bytes 30 and 38 on
   pub time : o.time.number ≡ 0 → o.time.time ≡ first_answered k (byte_at (sequences k) f 0 0 1 31) ∷ bytes_at (sequences k) f 0 0 1 32 3
@@ -111,7 +110,7 @@ pub record LaidOut (k : ℕ) (l : Contents) (f : List ℕ) : Type 0 where
   pub high : (c t : ℕ) → 0 < c → c < 9 → t < l.count → get_or f (sound_start (sequences k) c t) 0 ≡ word_by (given l c t) / 256
   pub low : (c t : ℕ) → 0 < c → c < 9 → t < l.count → get_or f (sound_start (sequences k) c t + 1) 0 ≡ word_by (given l c t) % 256
   -- "and each compressed macroblock"
-  pub macroblock : (h q g m b : ℕ) → h < 4 → q < sequences k → g < 27 → m < 5 → carried k h q g m ≡ Macroblock b
+  pub macroblock : (h q g m b : ℕ) → h < 4 → q < sequences k → g < 27 → m < 5 → carried k h q g m ≡ Some b
       → bytes_at (sequences k) f h q (slot_place (5 * g + m)) 3 77 ≡ take 77 (drop (77 * b) l.macroblocks)
 
 -- "A frame from our writer reads back to the samples, macroblocks, time code and binary groups it was given"

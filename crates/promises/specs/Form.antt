@@ -1,8 +1,7 @@
 -- The form of a written frame: every byte that the writer decides, of the frame's own blocks, in document 01's numbers and without the writer.
 -- What is not said here is carried: the time code and binary group of DIF channel 0, sequence 0, the count of its first AS, the samples
 -- below the count, the macroblocks.
-use Rattle.std.specs.Prelude.{◌≡◌, List, [], ◌∷◌, ℕ, ◌+◌, ◌*◌, ◌/◌, ◌%◌, ◌≤◌, ◌<◌, length, replicate}
-use Rattle.paper.specs.declared.Carried.TheVariants.{Nothing}
+use Rattle.std.specs.Prelude.{◌≡◌, List, [], ◌∷◌, ℕ, ◌+◌, ◌*◌, ◌/◌, ◌%◌, ◌≤◌, ◌<◌, length, replicate, None}
 use Rattle.paper.specs.Paper.{sequences, positions, rate, byte_at, bytes_at, section_at, number_at, channel_bits, sound_word, count_said, vaux_place, vaux_byte}
 use Rattle.paper.specs.Paper.{slot_place, carried}
 use Rattle.paper.specs.Bytes.{OwnCount, header_form, ssyb_form, vaux_form, aaux_form}
@@ -46,5 +45,5 @@ pub record HasForm (k : ℕ) (f : List ℕ) : Type 0 where
   -- "Positions from the count on are written 0"
   pub tails : (c t : ℕ) → 0 < c → c < 9 → count_said (sequences k) f 0 0 ≤ t → t < positions k → sound_word (sequences k) f c t ≡ 0
   -- "Remaining slots .. carry none; payload FFh"
-  pub empty : (h q g m : ℕ) → h < 4 → q < sequences k → g < 27 → m < 5 → carried k h q g m ≡ Nothing
+  pub empty : (h q g m : ℕ) → h < 4 → q < sequences k → g < 27 → m < 5 → carried k h q g m ≡ None
       → cut k f h q (slot_place (5 * g + m)) 3 77 ≡ replicate 77 0xFF

@@ -43,7 +43,7 @@ pub record OwnFault (n : ℕ) (f : List ℕ) (h q p r : ℕ) : Type 0 where
 -- ---- 21 to 23: some header, some VS
 
 -- some sequence q of some DIF channel h
-pub record Some (n : ℕ) (Is : ℕ → ℕ → Type 0) : Type 0 where
+pub record SomeInFrame (n : ℕ) (Is : ℕ → ℕ → Type 0) : Type 0 where
   pub h : ℕ
   pub q : ℕ
   pub channel : h < 4
@@ -158,7 +158,7 @@ view_table k f h q p =
 
 -- "Frame check ends at 22": the rows of every strict read, before its own
 abbrev pub checked : ℕ → List ℕ → Table → Table
-checked k f rows = FirstFault (sequences k) f else 21 if Some (sequences k) (WrongDsf k f) else 22 if Some (sequences k) (VsDisagrees k f) else rows
+checked k f rows = FirstFault (sequences k) f else 21 if SomeInFrame (sequences k) (WrongDsf k f) else 22 if SomeInFrame (sequences k) (VsDisagrees k f) else rows
 
 abbrev pub check_table : ℕ → List ℕ → Table
 check_table k f = 1 if (3 < k) else 2 if (length f ≢ 48000 * sequences k) else checked k f none
@@ -166,7 +166,7 @@ check_table k f = 1 if (3 < k) else 2 if (length f ≢ 48000 * sequences k) else
 -- "audio read adds 23-25"
 abbrev pub sounded : ℕ → List ℕ → ℕ → Table → Table
 sounded k f c rows =
-    23 if Some (sequences k) (Flagged 5 (sequences k) f)
+    23 if SomeInFrame (sequences k) (Flagged 5 (sequences k) f)
     else 24 if SomeInHalf (sequences k) c (AsBreaks k f c)
     else 25 if AsDiffer (sequences k) f c
     else rows
@@ -206,14 +206,14 @@ macroblock_table k f b =
     1 if (3 < k)
     else 2 if (length f ≢ 48000 * sequences k)
     else 3 if (macroblocks k ≤ b)
-    else checked k f (23 if Some (sequences k) (Flagged 6 (sequences k) f) else none)
+    else checked k f (23 if SomeInFrame (sequences k) (Flagged 6 (sequences k) f) else none)
 
 -- "time code read 23, 26, 27"
 abbrev pub time_table : ℕ → List ℕ → Table
 time_table k f =
     1 if (3 < k)
     else 2 if (length f ≢ 48000 * sequences k)
-    else checked k f (23 if Some (sequences k) (Flagged 7 (sequences k) f) else 26 if WrongFirst k f else 27 if Some (sequences k) (Differs k f) else none)
+    else checked k f (23 if SomeInFrame (sequences k) (Flagged 7 (sequences k) f) else 26 if WrongFirst k f else 27 if SomeInFrame (sequences k) (Differs k f) else none)
 
 -- 4 of the writer: "eight times the one count for sound .., 77 bytes a macroblock .., 4 each for time code and binary group"
 abbrev pub WrongLengths : ℕ → Contents → Type 0

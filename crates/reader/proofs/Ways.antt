@@ -1,4 +1,5 @@
 -- The ways out of the strict reads. s is what the code's `system_of` answers. Assumes nothing.
+use Rattle.std.specs.Prelude.{Option, Some, None}
 use mathlib.Core.Path.{◌≡◌, refl, sym, ap, ◌∙◌}
 use mathlib.Core.Bool.{Bool, true, false, ◌&&◌}
 use mathlib.Core.List.{List, ◌++◌}
@@ -17,8 +18,6 @@ use Rattle.base.proofs.Parts.{range_part}
 use Rattle.base.proofs.Picks.{pick_true, pick_false, both_held, both_hold}
 use Rattle.base.proofs.Runs.{tab_same, tab_constant}
 use Rattle.paper.specs.declared.System.{System}
-use Rattle.paper.specs.declared.SystemNumber.{SystemNumber}
-use Rattle.paper.specs.declared.SystemNumber.TheVariants.{Known, NoSystem}
 use Rattle.paper.specs.declared.Section.TheVariants.{Video}
 use Rattle.paper.specs.declared.BlockNumber.{BlockNumber}
 use Rattle.paper.specs.declared.Place.{Place}
@@ -26,9 +25,6 @@ use Rattle.paper.specs.declared.Part.{Part}
 use Rattle.paper.specs.declared.Pack.{Pack}
 use Rattle.paper.specs.declared.Sample.TheVariants.{Lost}
 use Rattle.paper.specs.declared.Slot.{Slot}
-use Rattle.paper.specs.declared.Carried.TheVariants.{Macroblock}
-use Rattle.paper.specs.declared.Carrier.{Carrier}
-use Rattle.paper.specs.declared.Carrier.TheVariants.{In, NoSlot}
 use Rattle.paper.specs.declared.AudioAnswer.{AudioAnswer}
 use Rattle.paper.specs.declared.TimeAnswer.{TimeAnswer}
 use Rattle.rules_format.specs.Systems.{sequences_of, positions_of, macroblocks_of, system_of}
@@ -76,32 +72,32 @@ module _ (y : System) (h q : ℕ) (v : BlockNumber) (asked : SlotAsked y h q v) 
 
 -- ---- macroblock_at and macroblock
 
-module _ (k : ℕ) (frame : List ℕ) (b : ℕ) (s : SystemNumber) (es : s ≡ system_of k) where
-  pub lies_no_system : s ≡ NoSystem → (r : Part) → r ≡ no_part 1 → MacroblockLies k frame b r
+module _ (k : ℕ) (frame : List ℕ) (b : ℕ) (s : Option System) (es : s ≡ system_of k) where
+  pub lies_no_system : s ≡ None → (r : Part) → r ≡ no_part 1 → MacroblockLies k frame b r
   lies_no_system e = macroblock_lies_stopped k frame b 1 (macroblock_1 k frame b (sym es ∙ e)) (λ z. omega arith)
 
-  module _ (y : System) (e : s ≡ Known y) (r : ℕ) (er : MacroblockNumbered k frame b r) where
+  module _ (y : System) (e : s ≡ Some y) (r : ℕ) (er : MacroblockNumbered k frame b r) where
     pub lies_refused : (r ≡ 0 → ⊥) → (t : Part) → t ≡ no_part r → MacroblockLies k frame b t
     lies_refused = macroblock_lies_stopped k frame b r er.answer
 
-    module _ (z : r ≡ 0) (c : Carrier) (ec : c ≡ carrier_of y b) where
+    module _ (z : r ≡ 0) (c : Option Slot) (ec : c ≡ carrier_of y b) where
       zero : macroblock_number k frame b ≡ 0
       zero = sym er.answer ∙ z
 
       holds : (length frame ≡ 48000 * sequences_of y) × (b < macroblocks_of y)
       holds = let w = macroblock_zero k frame b y (sym es ∙ e) zero in (w.0, w.1)
 
-      pub lies_nowhere : c ≡ NoSlot → (t : Part) → MacroblockLies k frame b t
-      lies_nowhere f t = let g : carrier_of y b ≡ NoSlot = sym ec ∙ f in absurd (nowhere_not (carrier_carries y b holds.1) g)
+      pub lies_nowhere : c ≡ None → (t : Part) → MacroblockLies k frame b t
+      lies_nowhere f t = let g : carrier_of y b ≡ None = sym ec ∙ f in absurd (nowhere_not (carrier_carries y b holds.1) g)
         where
-          nowhere_not : carried_by (carried_in y) (carrier_of y b) ≡ Macroblock b → carrier_of y b ≡ NoSlot → ⊥
+          nowhere_not : carried_by (carried_in y) (carrier_of y b) ≡ Some b → carrier_of y b ≡ None → ⊥
           nowhere_not m g = let q : ◌≡◌ {A = ℕ} 0 1 = cc in omega arith
 
-      module _ (slot : Slot) (f : c ≡ In slot) where
-        lies : carrier_of y b ≡ In slot
+      module _ (slot : Slot) (f : c ≡ Some slot) where
+        lies : carrier_of y b ≡ Some slot
         lies = sym ec ∙ f
 
-        carries : carried_in y slot ≡ Macroblock b
+        carries : carried_in y slot ≡ Some b
         carries = rw lies at (carrier_carries y b holds.1)
 
         pub slot_asked : SlotAsked y slot.channel slot.sequence slot.video
@@ -120,11 +116,11 @@ module _ (k : ℕ) (frame : List ℕ) (b : ℕ) (r : Part) (m : MacroblockLies k
 
 -- ---- read_time
 
-module _ (k : ℕ) (frame : List ℕ) (s : SystemNumber) (es : s ≡ system_of k) where
-  pub time_refused_1 : (r : TimeAnswer) → s ≡ NoSystem → r ≡ time_refused 1 → TimeRead k frame r
+module _ (k : ℕ) (frame : List ℕ) (s : Option System) (es : s ≡ system_of k) where
+  pub time_refused_1 : (r : TimeAnswer) → s ≡ None → r ≡ time_refused 1 → TimeRead k frame r
   time_refused_1 r e er = time_stopped k frame 1 r (time_1 k frame (sym es ∙ e)) (λ z. omega arith) er
 
-  pub time_answered : (y : System) → s ≡ Known y → (n : ℕ) → n ≡ time_number k frame → n ≡ 0 → (first time group : Pack) → first ≡ time_first y frame → time ≡ settled y first
+  pub time_answered : (y : System) → s ≡ Some y → (n : ℕ) → n ≡ time_number k frame → n ≡ 0 → (first time group : Pack) → first ≡ time_first y frame → time ≡ settled y first
       → group ≡ group_first y frame → (a b : List ℕ) → a ≡ four_bytes time → b ≡ four_bytes group → TimeRead k frame (record { number = 0; time = a; group = b })
   time_answered y e n en z first time group ef et eg a b ea eb =
       time_done k frame y (sym es ∙ e) (sym en ∙ z) _ (rw (ea, eb, et, ef, eg) refl)
@@ -154,13 +150,13 @@ module _ (y : System) (frame : List ℕ) (c : ℕ) (marked : Bool) (list list' :
 
 -- ---- read_audio: n is the number, `first` the first AS, count and mode what it says
 
-module _ (k : ℕ) (frame : List ℕ) (c : ℕ) (list : List ℤ) (s : SystemNumber) (es : s ≡ system_of k) where
-  pub audio_refused_1 : (r : AudioAnswer) → s ≡ NoSystem → r ≡ record { number = 1; count = 0 } → AudioRead k frame c list r list
+module _ (k : ℕ) (frame : List ℕ) (c : ℕ) (list : List ℤ) (s : Option System) (es : s ≡ system_of k) where
+  pub audio_refused_1 : (r : AudioAnswer) → s ≡ None → r ≡ record { number = 1; count = 0 } → AudioRead k frame c list r list
   audio_refused_1 r e er = audio_stopped k frame c list 1 r (audio_1 k frame c (length list) (sym es ∙ e)) (λ z. omega arith) er
 
-  module _ (y : System) (e : s ≡ Known y) (n : ℕ) (en : n ≡ audio_number k frame c (length list)) (z : n ≡ 0) (first : Pack) (ef : first ≡ first_as y frame c)
+  module _ (y : System) (e : s ≡ Some y) (n : ℕ) (en : n ≡ audio_number k frame c (length list)) (z : n ≡ 0) (first : Pack) (ef : first ≡ first_as y frame c)
       (count : ℕ) (ec : count ≡ count_in first) where
-    known : system_of k ≡ Known y
+    known : system_of k ≡ Some y
     known = sym es ∙ e
 
     none : audio_number k frame c (length list) ≡ 0

@@ -5,7 +5,7 @@ ghost use Rattle.rules_format.specs.Samples.{lost};
 ghost use Rattle.rules_reads.specs.Audio.{AudioRead};
 ghost use Rattle.rescue.specs.Taken.{samples_left};
 
-use paper::{AudioAnswer, Sample, System, SystemNumber};
+use paper::{AudioAnswer, Sample, System};
 
 // A refusal: its number, and no count.
 fn refused(number: u32) -> AudioAnswer
@@ -43,7 +43,7 @@ fn hear(y: System, frame: &[u8], audio: u32, marked: bool, samples: &mut [i32])
 pub fn read_audio(system: u32, frame: &[u8], audio: u32, samples: &mut [i32]) -> AudioAnswer
     ensures { AudioRead system frame.now audio samples.old result samples.new }
 {
-    let SystemNumber::Known(y) = layout::system_of(system) else {
+    let Some(y) = layout::system_of(system) else {
         return refused(1);
     };
     let size = samples.len();

@@ -3,7 +3,7 @@ ghost use Rattle.std.specs.Prelude.{◌≡◌};
 ghost use Rattle.rules_packs.specs.Packs.{four_bytes};
 ghost use Rattle.rules_reads.specs.Time.{time_refused, TimeRead};
 
-use paper::{Pack, SystemNumber, TimeAnswer};
+use paper::{Pack, TimeAnswer};
 
 // The four bytes of a pack behind its header.
 fn four_bytes(p: Pack) -> [u8; 4]
@@ -27,7 +27,7 @@ fn refused(number: u32) -> TimeAnswer
 pub fn read_time(system: u32, frame: &[u8]) -> TimeAnswer
     ensures { TimeRead system frame.now result }
 {
-    let SystemNumber::Known(y) = layout::system_of(system) else {
+    let Some(y) = layout::system_of(system) else {
         return refused(1);
     };
     let number = refuse_time::time_number(system, frame);

@@ -3,7 +3,7 @@ ghost use Rattle.rules_reads.specs.Macroblock.{MacroblockLies, MacroblockNumbere
 ghost use Rattle.reader.specs.Asked.{SlotAsked, SlotStart};
 
 use layout::{BLOCK, PLACES};
-use paper::{BlockNumber, Carrier, Part, Section, System, SystemNumber};
+use paper::{BlockNumber, Part, Section, System};
 
 // Where the 77 bytes of video block v start, behind its ID.
 fn slot_start(y: System, h: u32, q: u32, v: BlockNumber) -> usize
@@ -26,14 +26,14 @@ pub fn macroblock_number(system: u32, frame: &[u8], b: u32) -> u32
 pub fn macroblock_at(system: u32, frame: &[u8], b: u32) -> Part
     ensures { MacroblockLies system frame.now b result }
 {
-    let SystemNumber::Known(y) = layout::system_of(system) else {
+    let Some(y) = layout::system_of(system) else {
         return layout::no_part(1);
     };
     let refusal = macroblock_number(system, frame, b);
     if refusal != 0 {
         return layout::no_part(refusal);
     }
-    let Carrier::In(s) = picture::carrier(y, b) else {
+    let Some(s) = picture::carrier(y, b) else {
         return layout::no_part(refusal);
     };
     Part {

@@ -1,4 +1,5 @@
 -- The ways out of the audio read's numbers, a lemma a row. s is what the code's `system_of` answers, n the frame's bytes. Assumes nothing.
+use Rattle.std.specs.Prelude.{Option, Some, None}
 use mathlib.Core.Path.{◌≡◌, refl, sym, ap, ◌∙◌}
 use mathlib.Core.Bool.{Bool, true, false, not, ◌&&◌}
 use mathlib.Core.List.{List}
@@ -9,8 +10,6 @@ use borrow.Author.Tests.{not-true, not-false}
 use Rattle.base.specs.Calls.{first_of}
 use Rattle.paper.specs.declared.System.{System}
 use Rattle.paper.specs.declared.Pack.{Pack}
-use Rattle.paper.specs.declared.SystemNumber.{SystemNumber}
-use Rattle.paper.specs.declared.SystemNumber.TheVariants.{Known, NoSystem}
 use Rattle.rules_format.specs.Systems.{sequences_of, positions_of, system_of}
 use Rattle.rules_reads.specs.Check.{every_sequence, unflagged, check_rows}
 use Rattle.rules_packs.specs.Aaux.{count_in, mode_in}
@@ -45,12 +44,12 @@ module _ (y : System) (frame : List ℕ) (c : ℕ) (a : Bool) (ea : a ≡ every_
 
 -- ---- audio_number
 
-module _ (k : ℕ) (frame : List ℕ) (s : SystemNumber) (es : s ≡ system_of k) where
-  pub audio_no_system : (c size : ℕ) → s ≡ NoSystem → 1 ≡ audio_number k frame c size
+module _ (k : ℕ) (frame : List ℕ) (s : Option System) (es : s ≡ system_of k) where
+  pub audio_no_system : (c size : ℕ) → s ≡ None → 1 ≡ audio_number k frame c size
   audio_no_system c size e = audio_1 k frame c size (sym es ∙ e)
 
-  module _ (y : System) (e : s ≡ Known y) (n : ℕ) (en : n ≡ 48000 * sequences_of y) where
-    known : system_of k ≡ Known y
+  module _ (y : System) (e : s ≡ Some y) (n : ℕ) (en : n ≡ 48000 * sequences_of y) where
+    known : system_of k ≡ Some y
     known = sym es ∙ e
 
     -- bound by `let whole = frame.len() == n`

@@ -6,7 +6,7 @@ ghost use Rattle.base.specs.Calls.{first_of};
 ghost use Rattle.rules_reads.specs.Audio.{as_agree, audio_rows, audio_number};
 
 use judges::Test;
-use paper::{System, SystemNumber};
+use paper::System;
 
 // The AS packs of an audio channel say one count and one mode (25).
 fn as_agree(y: System, frame: &[u8], audio: u32) -> bool
@@ -40,7 +40,7 @@ pub fn sound_number(y: System, frame: &[u8], audio: u32) -> u32
 pub fn audio_number(system: u32, frame: &[u8], audio: u32, size: usize) -> u32
     ensures { result ≡ audio_number system frame.now audio size }
 {
-    let SystemNumber::Known(y) = layout::system_of(system) else {
+    let Some(y) = layout::system_of(system) else {
         return 1;
     };
     let whole = frame.len() == layout::frame_bytes(y);

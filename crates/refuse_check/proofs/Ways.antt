@@ -1,4 +1,5 @@
 -- The ways out of the frame check, a lemma a row. s is what the code's `system_of` answers, n the frame's bytes. Assumes nothing.
+use Rattle.std.specs.Prelude.{Option, Some, None}
 use mathlib.Core.Path.{◌≡◌, sym, ◌∙◌}
 use mathlib.Core.Bool.{Bool, true, false, not}
 use mathlib.Core.List.{List}
@@ -11,8 +12,6 @@ use Rattle.base.specs.Calls.{first_of}
 use Rattle.base.proofs.Cases.{by_bool}
 use Rattle.base.proofs.Picks.{pick_true, pick_false}
 use Rattle.paper.specs.declared.System.{System}
-use Rattle.paper.specs.declared.SystemNumber.{SystemNumber}
-use Rattle.paper.specs.declared.SystemNumber.TheVariants.{Known, NoSystem}
 use Rattle.rules_format.specs.Systems.{sequences_of, system_of}
 use Rattle.rules_reads.specs.Check.{every_sequence, dsf_agrees, vs_agrees, fault_in, check_rows, Checked}
 use Rattle.rules_reads.proofs.Check.{rows_fault, rows_21, rows_22, rows_0, check_1, check_2, check_rows_lem}
@@ -70,12 +69,12 @@ module _ (y : System) (frame : List ℕ) where
 
 -- ---- check_number
 
-module _ (k : ℕ) (frame : List ℕ) (s : SystemNumber) (es : s ≡ system_of k) where
-  pub check_no_system : s ≡ NoSystem → Checked k frame 1
+module _ (k : ℕ) (frame : List ℕ) (s : Option System) (es : s ≡ system_of k) where
+  pub check_no_system : s ≡ None → Checked k frame 1
   check_no_system e = record { answer = check_1 k frame (sym es ∙ e) }
 
-  module _ (y : System) (e : s ≡ Known y) (n : ℕ) (en : n ≡ 48000 * sequences_of y) where
-    known : system_of k ≡ Known y
+  module _ (y : System) (e : s ≡ Some y) (n : ℕ) (en : n ≡ 48000 * sequences_of y) where
+    known : system_of k ≡ Some y
     known = sym es ∙ e
 
     pub check_wrong_length : (length frame ≡ n → ⊥) → Checked k frame 2

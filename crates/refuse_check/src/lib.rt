@@ -6,7 +6,7 @@ ghost use Rattle.rules_reads.specs.Check.{Checked};
 ghost use Rattle.refuse_check.specs.Asked.{whole_number};
 
 use judges::Test;
-use paper::{System, SystemNumber};
+use paper::System;
 
 // What a frame is refused for: 2, 11 to 15 of its first faulty block, 21, 22.
 pub fn checked(y: System, frame: &[u8]) -> u32
@@ -29,7 +29,7 @@ pub fn checked(y: System, frame: &[u8]) -> u32
 pub fn check_number(system: u32, frame: &[u8]) -> u32
     ensures { Checked system frame.now result }
 {
-    let SystemNumber::Known(y) = layout::system_of(system) else {
+    let Some(y) = layout::system_of(system) else {
         return 1;
     };
     if frame.len() != layout::frame_bytes(y) {

@@ -1,4 +1,5 @@
 -- The ways out of the macroblock read's numbers, a lemma a row. s is what the code's `system_of` answers, n the frame's bytes. Assumes nothing.
+use Rattle.std.specs.Prelude.{Option, Some, None}
 use mathlib.Core.Path.{◌≡◌, sym, ap, ◌∙◌}
 use mathlib.Core.Bool.{Bool, true, false, not}
 use mathlib.Core.List.{List}
@@ -8,8 +9,6 @@ use lib.ListN.{length}
 use borrow.Author.Tests.{not-true, not-false}
 use Rattle.base.specs.Calls.{first_of}
 use Rattle.paper.specs.declared.System.{System}
-use Rattle.paper.specs.declared.SystemNumber.{SystemNumber}
-use Rattle.paper.specs.declared.SystemNumber.TheVariants.{Known, NoSystem}
 use Rattle.rules_format.specs.Systems.{sequences_of, macroblocks_of, system_of}
 use Rattle.rules_reads.specs.Check.{every_sequence, unflagged, check_rows}
 use Rattle.rules_reads.specs.Macroblock.{picture_rows, MacroblockNumbered}
@@ -28,12 +27,12 @@ module _ (y : System) (frame : List ℕ) (a : Bool) (ea : a ≡ every_sequence y
 
 -- ---- macroblock_number
 
-module _ (k : ℕ) (frame : List ℕ) (s : SystemNumber) (es : s ≡ system_of k) where
-  pub macroblock_no_system : (b : ℕ) → s ≡ NoSystem → MacroblockNumbered k frame b 1
+module _ (k : ℕ) (frame : List ℕ) (s : Option System) (es : s ≡ system_of k) where
+  pub macroblock_no_system : (b : ℕ) → s ≡ None → MacroblockNumbered k frame b 1
   macroblock_no_system b e = record { answer = macroblock_1 k frame b (sym es ∙ e) }
 
-  module _ (y : System) (e : s ≡ Known y) (n : ℕ) (en : n ≡ 48000 * sequences_of y) where
-    known : system_of k ≡ Known y
+  module _ (y : System) (e : s ≡ Some y) (n : ℕ) (en : n ≡ 48000 * sequences_of y) where
+    known : system_of k ≡ Some y
     known = sym es ∙ e
 
     module _ (b m : ℕ) (em : m ≡ macroblocks_of y) where

@@ -6,7 +6,7 @@ ghost use Rattle.base.specs.Calls.{first_of};
 ghost use Rattle.rules_reads.specs.Macroblock.{picture_rows, MacroblockNumbered};
 
 use judges::Test;
-use paper::{System, SystemNumber};
+use paper::System;
 
 // What a frame is refused for beyond the frame check: 23.
 fn picture_number(y: System, frame: &[u8]) -> u32
@@ -22,7 +22,7 @@ fn picture_number(y: System, frame: &[u8]) -> u32
 pub fn macroblock_number(system: u32, frame: &[u8], b: u32) -> u32
     ensures { MacroblockNumbered system frame.now b result }
 {
-    let SystemNumber::Known(y) = layout::system_of(system) else {
+    let Some(y) = layout::system_of(system) else {
         return 1;
     };
     let whole = frame.len() == layout::frame_bytes(y);

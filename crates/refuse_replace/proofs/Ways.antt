@@ -1,4 +1,5 @@
 -- The ways out of the numbers of a new audio channel, a lemma a row. s is what the code's `system_of` answers, n the frame's bytes. Assumes nothing.
+use Rattle.std.specs.Prelude.{Option, Some, None}
 use mathlib.Core.Path.{◌≡◌, sym, ap, ◌∙◌}
 use mathlib.Core.Bool.{Bool, true, false, not}
 use mathlib.Core.List.{List}
@@ -10,8 +11,6 @@ use borrow.Author.Tests.{eq-eqb, ne_eqb, not-true, not-false}
 use Rattle.base.specs.Calls.{first_of}
 use Rattle.paper.specs.declared.System.{System}
 use Rattle.paper.specs.declared.Pack.{Pack}
-use Rattle.paper.specs.declared.SystemNumber.{SystemNumber}
-use Rattle.paper.specs.declared.SystemNumber.TheVariants.{Known, NoSystem}
 use Rattle.rules_format.specs.Systems.{sequences_of, system_of}
 use Rattle.rules_format.specs.Samples.{all_in_range}
 use Rattle.rules_packs.specs.Aaux.{count_in, mode_in, is_mark}
@@ -50,12 +49,12 @@ module _ (y : System) (frame : List ℕ) (c : ℕ) (samples : List ℤ) (first :
 
 -- ---- replace_number
 
-module _ (k : ℕ) (frame : List ℕ) (c : ℕ) (samples : List ℤ) (s : SystemNumber) (es : s ≡ system_of k) where
-  pub replace_no_system : s ≡ NoSystem → 1 ≡ replace_number k frame c samples
+module _ (k : ℕ) (frame : List ℕ) (c : ℕ) (samples : List ℤ) (s : Option System) (es : s ≡ system_of k) where
+  pub replace_no_system : s ≡ None → 1 ≡ replace_number k frame c samples
   replace_no_system e = replace_1 k frame c samples (sym es ∙ e)
 
-  module _ (y : System) (e : s ≡ Known y) (n : ℕ) (en : n ≡ 48000 * sequences_of y) where
-    known : system_of k ≡ Known y
+  module _ (y : System) (e : s ≡ Some y) (n : ℕ) (en : n ≡ 48000 * sequences_of y) where
+    known : system_of k ≡ Some y
     known = sym es ∙ e
 
     pub replace_wrong_length : not (eqb (length frame) n) ≡ true → 2 ≡ replace_number k frame c samples

@@ -5,7 +5,7 @@ ghost use Rattle.std.specs.Prelude.{◌≡◌};
 ghost use Rattle.base.specs.Calls.{first_of};
 ghost use Rattle.rules_replaces.specs.Replace.{replace_rows, replace_number};
 
-use paper::{System, SystemNumber};
+use paper::System;
 
 // What is refused beyond the audio read: 29, 31, 33.
 fn list_number(y: System, frame: &[u8], audio: u32, samples: &[i32]) -> u32
@@ -29,7 +29,7 @@ fn list_number(y: System, frame: &[u8], audio: u32, samples: &[i32]) -> u32
 pub fn replace_number(system: u32, frame: &[u8], audio: u32, samples: &[i32]) -> u32
     ensures { result ≡ replace_number system frame.now audio samples.now }
 {
-    let SystemNumber::Known(y) = layout::system_of(system) else {
+    let Some(y) = layout::system_of(system) else {
         return 1;
     };
     let whole = frame.len() == layout::frame_bytes(y);

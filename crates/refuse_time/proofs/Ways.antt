@@ -1,4 +1,5 @@
 -- The ways out of the time code read's numbers, a lemma a row. s is what the code's `system_of` answers, n the frame's bytes. Assumes nothing.
+use Rattle.std.specs.Prelude.{Option, Some, None}
 use mathlib.Core.Path.{◌≡◌, refl, sym, ◌∙◌}
 use mathlib.Core.Bool.{Bool, true, false, not, ◌&&◌}
 use mathlib.Core.List.{List}
@@ -8,8 +9,6 @@ use lib.ListN.{length}
 use borrow.Author.Tests.{eq-eqb, ne_eqb, not-true, not-false}
 use Rattle.base.specs.Calls.{first_of}
 use Rattle.paper.specs.declared.System.{System}
-use Rattle.paper.specs.declared.SystemNumber.{SystemNumber}
-use Rattle.paper.specs.declared.SystemNumber.TheVariants.{Known, NoSystem}
 use Rattle.paper.specs.declared.Pack.{Pack}
 use Rattle.rules_format.specs.Systems.{sequences_of, system_of}
 use Rattle.rules_packs.specs.TimeCode.{time_ok, group_ok}
@@ -45,12 +44,12 @@ module _ (y : System) (frame : List ℕ) (a : Bool) (ea : a ≡ every_sequence y
 
 -- ---- time_number
 
-module _ (k : ℕ) (frame : List ℕ) (s : SystemNumber) (es : s ≡ system_of k) where
-  pub time_no_system : s ≡ NoSystem → 1 ≡ time_number k frame
+module _ (k : ℕ) (frame : List ℕ) (s : Option System) (es : s ≡ system_of k) where
+  pub time_no_system : s ≡ None → 1 ≡ time_number k frame
   time_no_system e = time_1 k frame (sym es ∙ e)
 
-  module _ (y : System) (e : s ≡ Known y) (n : ℕ) (en : n ≡ 48000 * sequences_of y) where
-    known : system_of k ≡ Known y
+  module _ (y : System) (e : s ≡ Some y) (n : ℕ) (en : n ≡ 48000 * sequences_of y) where
+    known : system_of k ≡ Some y
     known = sym es ∙ e
 
     pub time_wrong_length : (length frame ≡ n → ⊥) → 2 ≡ time_number k frame

@@ -6,7 +6,7 @@ ghost use Rattle.base.specs.Calls.{first_of};
 ghost use Rattle.rules_reads.specs.Time.{time_rows, time_number};
 
 use judges::Test;
-use paper::{System, SystemNumber};
+use paper::System;
 
 // What a frame is refused for beyond the frame check: 23, 26, 27.
 fn clock_number(y: System, frame: &[u8]) -> u32
@@ -30,7 +30,7 @@ fn clock_number(y: System, frame: &[u8]) -> u32
 pub fn time_number(system: u32, frame: &[u8]) -> u32
     ensures { result ≡ time_number system frame.now }
 {
-    let SystemNumber::Known(y) = layout::system_of(system) else {
+    let Some(y) = layout::system_of(system) else {
         return 1;
     };
     if frame.len() != layout::frame_bytes(y) {

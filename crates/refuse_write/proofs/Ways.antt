@@ -1,12 +1,11 @@
 -- The ways out of the refusals, a lemma a row. Assumes nothing.
+use Rattle.std.specs.Prelude.{Option, Some, None}
 use mathlib.Core.Path.{◌≡◌, sym, ap, ◌∙◌}
 use mathlib.Core.Bool.{Bool, true, false, not}
 use Prim.Native.Nat.{ℕ, ◌-◌, ◌*◌}
 use lib.Dec.{eqb}
 use borrow.Author.Tests.{not-true, not-false}
 use Rattle.paper.specs.declared.System.{System}
-use Rattle.paper.specs.declared.SystemNumber.{SystemNumber}
-use Rattle.paper.specs.declared.SystemNumber.TheVariants.{Known, NoSystem}
 use Rattle.paper.specs.declared.Pack.{Pack}
 use Rattle.rules_format.specs.Systems.{sequences_of, is_count, system_of}
 use Rattle.rules_packs.specs.Packs.{pack_of}
@@ -16,11 +15,11 @@ use Rattle.promises.specs.Contents.{Contents}
 use Rattle.rules_writes.specs.Write.{lengths_ok, write_number}
 use Rattle.rules_writes.proofs.Write.{write_1, write_2, write_3, write_4, write_31, write_32, write_0}
 
-pub way_1 : (k : ℕ) (l : Contents) (size : ℕ) (r : SystemNumber) → r ≡ system_of k → r ≡ NoSystem → 1 ≡ write_number k l size
+pub way_1 : (k : ℕ) (l : Contents) (size : ℕ) (r : Option System) → r ≡ system_of k → r ≡ None → 1 ≡ write_number k l size
 way_1 k l size r er en = write_1 k l size (sym er ∙ en)
 
-module _ (k y-size : ℕ) (y : System) (r : SystemNumber) (er : r ≡ system_of k) (ey : r ≡ Known y) (es : y-size ≡ 48000 * sequences_of y) where
-  known : system_of k ≡ Known y
+module _ (k y-size : ℕ) (y : System) (r : Option System) (er : r ≡ system_of k) (ey : r ≡ Some y) (es : y-size ≡ 48000 * sequences_of y) where
+  known : system_of k ≡ Some y
   known = sym er ∙ ey
 
   module _ (l : Contents) (size : ℕ) where

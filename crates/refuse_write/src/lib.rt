@@ -4,7 +4,7 @@
 ghost use Rattle.std.specs.Prelude.{◌≡◌};
 ghost use Rattle.rules_writes.specs.Write.{contents_of, lengths_fit, write_number};
 
-use paper::{System, SystemNumber};
+use paper::System;
 
 // The lengths are the system's and the count's.
 fn lengths_ok(
@@ -35,7 +35,7 @@ pub fn refusal(
 ) -> u32
     ensures { result ≡ write_number system (contents_of count sound.now macroblocks.now time.now group.now) size }
 {
-    let SystemNumber::Known(y) = layout::system_of(system) else {
+    let Some(y) = layout::system_of(system) else {
         return 1;
     };
     let whole = size == layout::frame_bytes(y);

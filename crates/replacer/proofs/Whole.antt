@@ -1,4 +1,5 @@
 -- The turns of all loops are the replaced frame: each word that is put is that of a sample, and each sample is put. Assumes nothing.
+use Rattle.std.specs.Prelude.{Option, Some, None}
 use mathlib.Core.Path.{◌≡◌, refl, sym, ap, ap₂, ◌∙◌, subst}
 use mathlib.Core.List.{List}
 use Prim.Native.Nat.{ℕ, ◌+◌, ◌-◌, ◌*◌, ◌≤◌, ◌<◌}
@@ -12,8 +13,6 @@ use Rattle.base.proofs.Cases.{by_lt}
 use Rattle.base.proofs.Picks.{pick_true, pick_false, pick_either}
 use Rattle.base.proofs.Puts.{put_run, turns_keep, turns_do, turns_same}
 use Rattle.paper.specs.declared.System.{System}
-use Rattle.paper.specs.declared.SystemNumber.{SystemNumber}
-use Rattle.paper.specs.declared.SystemNumber.TheVariants.{Known, NoSystem}
 use Rattle.rules_format.specs.Systems.{half_of, positions_of, system_of}
 use Rattle.rules_format.specs.Samples.{word_for, bytes_of}
 use Rattle.rules_format.specs.Sound.{rank_of, audio_of, word_number, rank_at, first_at, sample_at}
@@ -192,12 +191,12 @@ module _ (y : System) (i : ℕ) (samples : List ℤ) (f : List ℕ) (asked : Fra
 
 -- ---- replace_audio: r is what `replace_number` answers, s what `system_of` does
 
-module _ (k : ℕ) (frame : List ℕ) (c : ℕ) (samples : List ℤ) (r : ℕ) (er : r ≡ replace_number k frame c samples) (z : r ≡ 0) (s : SystemNumber) (es : s ≡ system_of k) where
-  pub no_system : s ≡ NoSystem → Replaced k frame c samples r frame
+module _ (k : ℕ) (frame : List ℕ) (c : ℕ) (samples : List ℤ) (r : ℕ) (er : r ≡ replace_number k frame c samples) (z : r ≡ 0) (s : Option System) (es : s ≡ system_of k) where
+  pub no_system : s ≡ None → Replaced k frame c samples r frame
   no_system e = absurd (omega (arith, er, z, replace_1 k frame c samples (sym es ∙ e)))
 
-  module _ (y : System) (e : s ≡ Known y) where
-    known : system_of k ≡ Known y
+  module _ (y : System) (e : s ≡ Some y) where
+    known : system_of k ≡ Some y
     known = sym es ∙ e
 
     takes : Takes y frame c samples

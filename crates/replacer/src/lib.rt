@@ -9,7 +9,7 @@ ghost use Rattle.replacer.specs.Asked.{BlockAsked, PartAsked, RankAsked, FrameAs
 ghost use Rattle.replacer.specs.Turns.{block_words, block_turn, rank_start, rank_turn};
 
 use layout::{BLOCK, SEQUENCE};
-use paper::{BlockNumber, Section, System, SystemNumber};
+use paper::{BlockNumber, Section, System};
 
 // Audio block a of the sequence of rank r: its words stand behind the ID and a pack.
 fn replace_block(block: &mut [u8], y: System, samples: &[i32], r: u32, a: BlockNumber)
@@ -64,7 +64,7 @@ pub fn replace_audio(system: u32, frame: &mut [u8], audio: u32, samples: &[i32])
     if number != 0 {
         return number;
     }
-    let SystemNumber::Known(y) = layout::system_of(system) else {
+    let Some(y) = layout::system_of(system) else {
         return number;
     };
     replace_channel(frame, y, audio - 1, samples);

@@ -1,4 +1,5 @@
 -- What the loop over the audio channels keeps, and the ways out of the call. Assumes nothing.
+use Rattle.std.specs.Prelude.{Option, Some, None}
 use mathlib.Core.Path.{◌≡◌, refl, sym, ap, ◌∙◌}
 use mathlib.Core.Bool.{true, false, not}
 use mathlib.Core.List.{List, [], ◌++◌}
@@ -17,8 +18,6 @@ use Rattle.base.proofs.Parts.{range_part, length_part}
 use Rattle.base.proofs.Picks.{pick_true, pick_false, first_here, first_next}
 use Rattle.base.proofs.Runs.{end_within, length_tab}
 use Rattle.paper.specs.declared.System.{System}
-use Rattle.paper.specs.declared.SystemNumber.{SystemNumber}
-use Rattle.paper.specs.declared.SystemNumber.TheVariants.{Known, NoSystem}
 use Rattle.paper.specs.declared.Survey.{Survey}
 use Rattle.rules_format.specs.Systems.{sequences_of, half_of, positions_of, in_system, system_of}
 use Rattle.rules_surveys.specs.FaultLists.{frame_faults, faults_in}
@@ -98,20 +97,20 @@ first_none : first_of [] ≡ 0
 unfolding first_of
 first_none = refl
 
-module _ (k : ℕ) (s : SystemNumber) (es : s ≡ system_of k) (frame : List ℕ) (samples : List ℤ) (list : List ℕ) where
+module _ (k : ℕ) (s : Option System) (es : s ≡ system_of k) (frame : List ℕ) (samples : List ℤ) (list : List ℕ) where
   stopped : (j : ℕ) (r : Survey) → salvage_number k frame (length samples) ≡ suc j → r ≡ refusal (suc j) → Salvaged k frame samples list r samples list
   unfolding salvage_left
   stopped j r e er =
       record { survey = survey_stopped _ _ list j r e er; left = sym (pick_false _ _ (ne_eqb (salvage_number k frame (length samples)) 0 (λ z. omega arith))) }
 
-  pub salvage_no_system : (r : Survey) → s ≡ NoSystem → r ≡ refusal 1 → Salvaged k frame samples list r samples list
+  pub salvage_no_system : (r : Survey) → s ≡ None → r ≡ refusal 1 → Salvaged k frame samples list r samples list
   unfolding salvage_number
   salvage_no_system r e er =
-      let none : system_of k ≡ NoSystem = sym es ∙ e in
+      let none : system_of k ≡ None = sym es ∙ e in
       stopped 0 r (rw none (first_here true 1 _ refl)) er
 
-  module _ (y : System) (e : s ≡ Known y) (n : ℕ) (en : n ≡ 48000 * sequences_of y) (m : ℕ) (em : m ≡ positions_of y) where
-    known : system_of k ≡ Known y
+  module _ (y : System) (e : s ≡ Some y) (n : ℕ) (en : n ≡ 48000 * sequences_of y) (m : ℕ) (em : m ≡ positions_of y) where
+    known : system_of k ≡ Some y
     known = sym es ∙ e
 
     pub salvage_wrong_length : (r : Survey) → not (eqb (length frame) n) ≡ true → r ≡ refusal 2 → Salvaged k frame samples list r samples list

@@ -4,7 +4,7 @@ ghost use Rattle.rules_surveys.specs.Salvage.{Salvaged};
 ghost use Rattle.rescue.specs.Asked.{FrameAsked, FrameSalvaged};
 
 use crate::half;
-use paper::{Survey, System, SystemNumber};
+use paper::{Survey, System};
 
 // Every audio channel.
 fn salvage_all(frame: &[u8], y: System, samples: &mut [i32], list: &mut [u32]) -> u32
@@ -27,7 +27,7 @@ fn salvage_all(frame: &[u8], y: System, samples: &mut [i32], list: &mut [u32]) -
 pub fn salvage(system: u32, frame: &[u8], samples: &mut [i32], list: &mut [u32]) -> Survey
     ensures { Salvaged system frame.now samples.old list.old result samples.new list.new }
 {
-    let SystemNumber::Known(y) = layout::system_of(system) else {
+    let Some(y) = layout::system_of(system) else {
         return fault_list::refused(1);
     };
     let whole = frame.len() == layout::frame_bytes(y);

@@ -1,4 +1,5 @@
 -- Document 01's own numbers and bytes are those of the definitions. Assumes nothing.
+use Rattle.std.specs.Prelude.{Option, Some, None}
 use mathlib.Core.Path.{◌≡◌, refl, sym, ap, ◌∙◌, subst}
 use mathlib.Core.Bool.{Bool, true, false}
 use mathlib.Core.List.{List, [], ◌∷◌}
@@ -17,8 +18,6 @@ use Rattle.base.proofs.Cases.{by_lt, by_bool, clash}
 use Rattle.base.proofs.Parts.{part_part, drop_part}
 use Rattle.paper.specs.declared.System.{System}
 use Rattle.paper.specs.declared.System.TheVariants.{I60, I50, P60, P50}
-use Rattle.paper.specs.declared.SystemNumber.{SystemNumber}
-use Rattle.paper.specs.declared.SystemNumber.TheVariants.{Known, NoSystem}
 use Rattle.paper.specs.declared.Section.{Section}
 use Rattle.paper.specs.declared.Entry.{Entry}
 use Rattle.rules_format.specs.Systems.{sequences_of, positions_of, counts_of, macroblocks_of, rate_of, stype_of, system_of, number_of_system, in_system}
@@ -52,7 +51,7 @@ columns_at P60 = record { sequences_is = refl; positions_is = refl; fewer_is = r
 columns_at P50 = record { sequences_is = refl; positions_is = refl; fewer_is = refl; more_is = refl; macroblocks_is = refl; rate_is = refl; stype_is = refl }
 
 -- the number that a system's number says; 4 where it says none
-abbrev said : SystemNumber → ℕ
+abbrev said : Option System → ℕ
 said = in_system 4 number_of_system
 
 said_below : (k : ℕ) → k < 4 → said (system_of k) ≡ k
@@ -66,28 +65,28 @@ number_below P60 = omega arith
 number_below P50 = omega arith
 
 -- a number above 3 says none, any other its row
-pub known_below : (k : ℕ) (y : System) → system_of k ≡ Known y → k < 4
+pub known_below : (k : ℕ) (y : System) → system_of k ≡ Some y → k < 4
 known_below k y e = by_lt k 4 (λ l. l) (λ g. absurd (omega (arith, number_below y, ap said (sym (system_above k (omega arith)) ∙ e))))
 
-pub number_known : (k : ℕ) (y : System) → system_of k ≡ Known y → k ≡ number_of_system y
+pub number_known : (k : ℕ) (y : System) → system_of k ≡ Some y → k ≡ number_of_system y
 number_known k y e = sym (said_below k (known_below k y e)) ∙ ap said e
 
-pub none_above : (k : ℕ) → system_of k ≡ NoSystem → 3 < k
+pub none_above : (k : ℕ) → system_of k ≡ None → 3 < k
 none_above k e = by_lt k 4 (λ l. absurd (omega (arith, said_below k l, ap said e))) (λ g. g)
 
-pub columns : (k : ℕ) (y : System) → system_of k ≡ Known y → Columns k y
+pub columns : (k : ℕ) (y : System) → system_of k ≡ Some y → Columns k y
 columns k y e = subst (λ (j : ℕ). Columns j y) (sym (number_known k y e)) (columns_at y)
 
 -- a number says none, or a system
-pub by_system : {P : Type 0} (k : ℕ) → (system_of k ≡ NoSystem → P) → ((y : System) → system_of k ≡ Known y → P) → P
+pub by_system : {P : Type 0} (k : ℕ) → (system_of k ≡ None → P) → ((y : System) → system_of k ≡ Some y → P) → P
 by_system {P} k none some = by_number (system_of k) refl
   where
-    by_number : (s : SystemNumber) → system_of k ≡ s → P
-    by_number (Known y) e = some y e
-    by_number NoSystem e = none e
+    by_number : (s : Option System) → system_of k ≡ s → P
+    by_number (Some y) e = some y e
+    by_number None e = none e
 
 -- and each of 0 to 3 says one
-pub known_system : {P : Type 0} (k : ℕ) → k < 4 → ((y : System) → system_of k ≡ Known y → P) → P
+pub known_system : {P : Type 0} (k : ℕ) → k < 4 → ((y : System) → system_of k ≡ Some y → P) → P
 known_system k h f = by_system k (λ e. absurd (omega (arith, h, none_above k e))) f
 
 -- ---- figure 3

@@ -1,4 +1,5 @@
 -- Laws of sections and of the 150 places, each of the places proved once over all of them. Assumes nothing.
+use Rattle.std.specs.Prelude.{Some, None}
 use mathlib.Core.Path.{◌≡◌, refl, sym, ap, ◌∙◌, subst}
 use mathlib.Core.Bool.{Bool, ◌&&◌}
 use Prim.Native.Nat.{ℕ, ◌/◌, ◌%◌, ◌≤◌, ◌<◌}
@@ -17,7 +18,6 @@ use Rattle.paper.specs.declared.Section.TheVariants.{Header, Subcode, Vaux, Audi
 use Rattle.paper.specs.declared.BlockNumber.{BlockNumber}
 use Rattle.paper.specs.declared.Place.{Place}
 use Rattle.paper.specs.declared.Entry.{Entry}
-use Rattle.paper.specs.declared.Found.TheVariants.{At, Nowhere}
 use Rattle.rules_format.specs.Places.{code_of, section_of, blocks_of, place, block, places, entry_at, place_in, place_for, place_of}
 use Rattle.rules_format.specs.Judging.{printed, printed_places, entry_of}
 
@@ -128,20 +128,20 @@ place_for_entry p h = place_for_lem _ _ (entry_number_below p h) ∙ ap place (p
 
 -- ---- place_of: the one rule that turns a place into a block and back
 
-pub place_of_entry : (p : ℕ) → p < 150 → place_of (entry_at (place p)) ≡ At (place p)
+pub place_of_entry : (p : ℕ) → p < 150 → place_of (entry_at (place p)) ≡ Some (place p)
 unfolding place_of
-place_of_entry p h = pick_true _ _ (lt-ltb _ _ (entry_number_below p h)) ∙ ap (λ (j : ℕ). At (place j)) (place_in_entry p h)
+place_of_entry p h = pick_true _ _ (lt-ltb _ _ (entry_number_below p h)) ∙ ap (λ (j : ℕ). Some (place j)) (place_in_entry p h)
 
-pub entry_of_place : (e : Entry) (p : Place) → place_of e ≡ At p → (p.0 < 150) × (entry_at p ≡ e)
+pub entry_of_place : (e : Entry) (p : Place) → place_of e ≡ Some p → (p.0 < 150) × (entry_at p ≡ e)
 unfolding place_of
 entry_of_place e p f =
     by_lt e.number.0 (blocks_of e.section)
     (λ h.
-    let q : At (place (place_in e.section e.number.0)) ≡ At p = sym (pick_true _ _ (lt-ltb _ _ h)) ∙ f in
+    let q : Some (place (place_in e.section e.number.0)) ≡ Some p = sym (pick_true _ _ (lt-ltb _ _ h)) ∙ f in
     let same : place (place_in e.section e.number.0) ≡ p = cc in
     (subst (λ (x : Place). x.0 < 150) same (place_in_below e.section e.number.0 h), subst (λ (x : Place). entry_at x ≡ e) same (entry_place_in e.section e.number.0 h)))
     (λ h.
-    let q : Nowhere ≡ At p = sym (pick_false _ _ (le-ltb _ _ h)) ∙ f in
+    let q : None ≡ Some p = sym (pick_false _ _ (le-ltb _ _ h)) ∙ f in
     let z : ◌≡◌ {A = ℕ} 0 1 = cc in
     absurd (omega arith))
 

@@ -1,4 +1,5 @@
 -- Laws of samples: a number that is given, as a sample, as a word, as two bytes, and read again. Assumes nothing.
+use Rattle.std.specs.Prelude.{Some, None}
 use mathlib.Core.Path.{◌≡◌, refl, sym, ap, ◌∙◌, subst}
 use mathlib.Core.Bool.{true, false}
 use mathlib.Core.List.{List, [], ◌∷◌}
@@ -13,7 +14,6 @@ use Rattle.base.specs.Pick.{pick}
 use Rattle.base.proofs.Cases.{by_bool, by_lt, by_eq}
 use Rattle.base.proofs.Picks.{pick_either, both_held}
 use Rattle.paper.specs.declared.Sample.TheVariants.{Level, Lost}
-use Rattle.paper.specs.declared.SampleNumber.TheVariants.{Sampled, NoSample}
 use Rattle.rules_format.specs.Samples.{number_of, in_range, sample_in, all_in_range, sample_of, word_of, word_in, word_for, bytes_of, word_at, back_of}
 use Rattle.paper.specs.Paper
 use Rattle.paper.specs.Paper.{sample_by, back}
@@ -49,15 +49,15 @@ pub range_ends : (in_range (pos 32768) ≡ true) × (in_range (negsuc 32767) ≡
 unfolding in_range
 range_ends = (refl, refl, refl, refl)
 
-pub sample_none : (z : ℤ) → in_range z ≡ false → sample_in z ≡ NoSample
+pub sample_none : (z : ℤ) → in_range z ≡ false → sample_in z ≡ None
 unfolding sample_in pick
 sample_none z e = rw e refl
 
-pub sample_lost : sample_in (pos 32768) ≡ Sampled Lost
+pub sample_lost : sample_in (pos 32768) ≡ Some Lost
 unfolding sample_in in_range pick
 sample_lost = refl
 
-pub sample_level : (z : ℤ) → in_range z ≡ true → (z ≡ pos 32768 → ⊥) → sample_in z ≡ Sampled (Level z)
+pub sample_level : (z : ℤ) → in_range z ≡ true → (z ≡ pos 32768 → ⊥) → sample_in z ≡ Some (Level z)
 unfolding sample_in in_range pick
 sample_level (pos n) e d =
     by_eq n 32768

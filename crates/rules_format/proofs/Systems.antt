@@ -1,4 +1,5 @@
 -- Laws of the four systems. Assumes nothing.
+use Rattle.std.specs.Prelude.{Some, None}
 use mathlib.Core.Path.{◌≡◌, refl}
 use mathlib.Core.Bool.{true}
 use mathlib.Core.Logic.{◌⊎◌, inl, inr, ⊎_elim}
@@ -9,12 +10,11 @@ use Rattle.base.specs.Pick.{pick}
 use Rattle.base.proofs.Cases.{by_eq}
 use Rattle.paper.specs.declared.System.{System}
 use Rattle.paper.specs.declared.System.TheVariants.{I60, I50, P60, P50}
-use Rattle.paper.specs.declared.SystemNumber.TheVariants.{Known, NoSystem}
 use Rattle.rules_format.specs.Systems.{sequences_of, half_of, positions_of, counts_of, is_count, macroblocks_of, rate_of, stype_of, system_of, number_of_system}
 
 -- ---- systemOf
 
-pub system_number : (y : System) → system_of (number_of_system y) ≡ Known y
+pub system_number : (y : System) → system_of (number_of_system y) ≡ Some y
 unfolding system_of pick
 system_number I60 = refl
 system_number I50 = refl
@@ -22,7 +22,7 @@ system_number P60 = refl
 system_number P50 = refl
 
 -- 1: "system above 3"
-pub system_above : (k : ℕ) → 3 < k → system_of k ≡ NoSystem
+pub system_above : (k : ℕ) → 3 < k → system_of k ≡ None
 unfolding system_of pick
 system_above k h =
     rw (ne_eqb k 0 (λ e. omega arith), ne_eqb k 1 (λ e. omega arith), ne_eqb k 2 (λ e. omega arith), ne_eqb k 3 (λ e. omega arith)) refl

@@ -1,6 +1,6 @@
 -- What the definitions of this crate are in document 01's own numbers (`paper`). The laws above go through it, and it says what no call shows, as the way
 -- back from a block to its place.
-use Rattle.std.specs.Prelude.{◌≡◌, true, false, ◌||◌, Bool, List, [], ◌∷◌, ◌⊎◌, ◌≢◌, ◌-◌, ℕ, ◌+◌, ◌*◌, ◌/◌, ◌%◌, ◌≤◌, ◌<◌, eqb, leb, ℤ, pos, negsuc, length, get_or, take, drop}
+use Rattle.std.specs.Prelude.{◌≡◌, true, false, ◌||◌, Bool, List, [], ◌∷◌, ◌⊎◌, ◌≢◌, ◌-◌, ℕ, ◌+◌, ◌*◌, ◌/◌, ◌%◌, ◌≤◌, ◌<◌, eqb, leb, ℤ, pos, negsuc, length, get_or, take, drop, Some, None}
 use Rattle.base.specs.Calls.{Refusal}
 use Rattle.paper.specs.declared.Part.{Part}
 use Rattle.rules_format.specs.Systems.{number_of_system, is_no_system, sequences_in, positions_in, passes, rows_in, frame_bytes, sequences_of, half_of}
@@ -17,14 +17,11 @@ use Rattle.rules_format.specs.Stream.{blocks_in, named}
 use Rattle.base.specs.Run.{tab}
 use Rattle.paper.specs.declared.System.{System}
 use Rattle.paper.specs.declared.System.TheVariants.{I60, I50, P60, P50}
-use Rattle.paper.specs.declared.SystemNumber.TheVariants.{Known, NoSystem}
 use Rattle.paper.specs.declared.Sample.TheVariants.{Level, Lost}
-use Rattle.paper.specs.declared.SampleNumber.TheVariants.{Sampled, NoSample}
 use Rattle.paper.specs.declared.Section.{Section}
 use Rattle.paper.specs.declared.BlockNumber.{BlockNumber}
 use Rattle.paper.specs.declared.Place.{Place}
 use Rattle.paper.specs.declared.Entry.{Entry}
-use Rattle.paper.specs.declared.Found.TheVariants.{At}
 use Rattle.paper.specs.declared.Section.TheVariants.{Header, Subcode, Vaux, Audio, Video}
 use Rattle.paper.specs.declared.BlockId.{BlockId}
 use Rattle.paper.specs.declared.Spare.{Spare}
@@ -36,7 +33,7 @@ use Rattle.paper.specs.Paper.{figure3, channel_bits, channel_by, bytes_at, fault
 
 -- a row of the table of systems, with its two sample counts
 pub record Numbers (k : ℕ) (y : System) (n positions fewer more count rate stype : ℕ) : Type 0 where
-  pub system : system_of k ≡ Known y
+  pub system : system_of k ≡ Some y
   pub numbers : (sequences_of y ≡ n) × (positions_of y ≡ positions) × (counts_of y ≡ record { fewer = fewer; more = more }) × (macroblocks_of y ≡ count)
       × (rate_of y ≡ rate) × (stype_of y ≡ stype)
 
@@ -47,14 +44,14 @@ pub record SystemsInNumbers : Type 0 where
       × Numbers 2 P60 10 1620 1600 1602 5400 0 0x18 × Numbers 3 P50 12 1944 1920 1920 5400 1 0x18
   pub counts : (y : System) (k : ℕ) → (sequences_of y ≡ 10 → is_count y k ≡ (eqb k 1600 || eqb k 1602)) × (sequences_of y ≡ 12 → is_count y k ≡ eqb k 1920)
   -- 1: "system above 3"
-  pub no_system : (k : ℕ) → 3 < k → system_of k ≡ NoSystem
+  pub no_system : (k : ℕ) → 3 < k → system_of k ≡ None
   pub system_numbers : (number_of_system I60 ≡ 0) × (number_of_system I50 ≡ 1) × (number_of_system P60 ≡ 2) × (number_of_system P50 ≡ 3)
   -- what is said of a system, and of none: "frame length: 48,000·n"
   pub in_system : (y : System) (test : System → Bool) (rows : System → List Refusal)
-      → (is_no_system (Known y) ≡ false) × (sequences_in (Known y) ≡ sequences_of y) × (positions_in (Known y) ≡ positions_of y)
-      × (frame_bytes (Known y) ≡ 48000 * sequences_of y) × (passes test (Known y) ≡ test y) × (rows_in (Known y) rows ≡ rows y)
+      → (is_no_system (Some y) ≡ false) × (sequences_in (Some y) ≡ sequences_of y) × (positions_in (Some y) ≡ positions_of y)
+      × (frame_bytes (Some y) ≡ 48000 * sequences_of y) × (passes test (Some y) ≡ test y) × (rows_in (Some y) rows ≡ rows y)
   pub in_none : (test : System → Bool) (rows : System → List Refusal)
-      → (is_no_system NoSystem ≡ true) × (passes test NoSystem ≡ false) × (rows_in NoSystem rows ≡ [])
+      → (is_no_system None ≡ true) × (passes test None ≡ false) × (rows_in None rows ≡ [])
 
 -- Block IDs
 pub record IdsInNumbers : Type 0 where
@@ -103,8 +100,8 @@ pub record BlocksInNumbers : Type 0 where
       × (place_in Video k ≡ Paper.slot_place k)
   -- and back, over all entries: a place for what stands there, and none for what stands nowhere
   pub places_back : (p : ℕ) → p < 150
-      → (place_of (entry_at (place p)) ≡ At (place p)) × (place_for (entry_at (place p)).section (entry_at (place p)).number ≡ place p)
-  pub places_only : (e : Entry) (p : Place) → place_of e ≡ At p → (p.0 < 150) × (entry_at p ≡ e)
+      → (place_of (entry_at (place p)) ≡ Some (place p)) × (place_for (entry_at (place p)).section (entry_at (place p)).number ≡ place p)
+  pub places_only : (e : Entry) (p : Place) → place_of e ≡ Some p → (p.0 < 150) × (entry_at p ≡ e)
   pub no_place : (s : Section) (k : BlockNumber) → (place_for s k).0 < 150 → entry_at (place_for s k) ≡ record { section = s; number = k }
   -- "Block start: ((n·h + q)·150 + place)·80."; a sequence, and a block as a part of it
   pub starts : (y : System) (h q p : ℕ) → start_of y h q p ≡ Paper.start (sequences_of y) h q p
@@ -155,10 +152,10 @@ pub record SoundInNumbers : Type 0 where
   pub all_in_range_lem : (xs : List ℤ) → all_in_range xs ≡ true → (i : ℕ) → i < length xs → in_range (get_or xs i (pos 0)) ≡ true
   pub all_passes : (xs : List ℤ) → ((i : ℕ) → i < length xs → in_range (get_or xs i (pos 0)) ≡ true) → all_in_range xs ≡ true
   -- "a sample is a level or it is lost", 32,768 in a slice and 8000h in a block; outside the range there is none
-  pub lost : (sample_in (pos 32768) ≡ Sampled Lost) × (sample_of 0x8000 ≡ Lost)
+  pub lost : (sample_in (pos 32768) ≡ Some Lost) × (sample_of 0x8000 ≡ Lost)
   pub sample_numbers : (z : ℤ) → (number_of (Level z) ≡ z) × (number_of Lost ≡ pos 32768)
-  pub levels : (z : ℤ) → in_range z ≡ true → z ≢ pos 32768 → sample_in z ≡ Sampled (Level z)
-  pub no_sample : (z : ℤ) → in_range z ≡ false → sample_in z ≡ NoSample
+  pub levels : (z : ℤ) → in_range z ≡ true → z ≢ pos 32768 → sample_in z ≡ Some (Level z)
+  pub no_sample : (z : ℤ) → in_range z ≡ false → sample_in z ≡ None
   -- "Word 8000h is lost; a level of -32,768 is written 8001h", and comes back as -32,767; "high byte first"
   pub hears : (w : ℕ) → number_of (sample_of w) ≡ sample_by w
   pub words : (z : ℤ) → in_range z ≡ true → (word_for z ≡ Paper.word_by z) × (back_of z ≡ Paper.back z)

@@ -1,5 +1,5 @@
 -- The 150 places of a sequence (document 01, "The four systems").
-use Rattle.std.specs.Prelude.{List, ◌∷◌, ℕ, ◌+◌, ◌*◌, ◌/◌, ◌%◌, eqb, ltb, get_or}
+use Rattle.std.specs.Prelude.{List, ◌∷◌, ℕ, ◌+◌, ◌*◌, ◌/◌, ◌%◌, eqb, ltb, get_or, Option, Some, None}
 use Rattle.base.specs.Pick.{pick}
 use Rattle.base.specs.Run.{run, tab}
 use Rattle.paper.specs.declared.Section.{Section}
@@ -7,8 +7,6 @@ use Rattle.paper.specs.declared.Section.TheVariants.{Header, Subcode, Vaux, Audi
 use Rattle.paper.specs.declared.BlockNumber.{BlockNumber}
 use Rattle.paper.specs.declared.Place.{Place}
 use Rattle.paper.specs.declared.Entry.{Entry}
-use Rattle.paper.specs.declared.Found.{Found}
-use Rattle.paper.specs.declared.Found.TheVariants.{At, Nowhere}
 
 -- ---- sections
 
@@ -63,5 +61,5 @@ place_in Video v = 7 + 16 * (v / 15) + v % 15
 unfoldable pub place_for : Section → BlockNumber → Place
 place_for s k = pick (ltb k.0 (blocks_of s)) (place (place_in s k.0)) (place 150)
 
-unfoldable pub place_of : Entry → Found
-place_of e = pick (ltb e.number.0 (blocks_of e.section)) (At (place (place_in e.section e.number.0))) Nowhere
+unfoldable pub place_of : Entry → Option Place
+place_of e = pick (ltb e.number.0 (blocks_of e.section)) (Some (place (place_in e.section e.number.0))) None

@@ -1,13 +1,11 @@
 -- Samples: in a lent slice a number, in a block a word (document 01, "Sound").
-use Rattle.std.specs.Prelude.{Bool, true, ◌&&◌, List, [], ◌∷◌, ℕ, ◌+◌, ◌*◌, ◌/◌, ◌%◌, eqb, ℤ, pos, negsuc, get_or}
+use Rattle.std.specs.Prelude.{Bool, true, ◌&&◌, List, [], ◌∷◌, ℕ, ◌+◌, ◌*◌, ◌/◌, ◌%◌, eqb, ℤ, pos, negsuc, get_or, Option, Some, None}
 use Rattle.std.specs.Int.Signed.{le_z}
 use Rattle.std.specs.Int.{w16}
 use Rattle.std.proofs.Common.{to_z, of_z}
 use Rattle.base.specs.Pick.{pick}
 use Rattle.paper.specs.declared.Sample.{Sample}
 use Rattle.paper.specs.declared.Sample.TheVariants.{Level, Lost}
-use Rattle.paper.specs.declared.SampleNumber.{SampleNumber}
-use Rattle.paper.specs.declared.SampleNumber.TheVariants.{Sampled, NoSample}
 
 -- ---- numbers: "In lent slices of signed 32-bit numbers lost is 32,768."
 
@@ -22,8 +20,8 @@ number_of Lost = lost
 unfoldable pub in_range : ℤ → Bool
 in_range z = le_z (negsuc 32767) z && le_z z lost
 
-unfoldable pub sample_in : ℤ → SampleNumber
-sample_in z = pick (in_range z) (Sampled (pick (le_z lost z) Lost (Level z))) NoSample
+unfoldable pub sample_in : ℤ → Option Sample
+sample_in z = pick (in_range z) (Some (pick (le_z lost z) Lost (Level z))) None
 
 unfoldable pub all_in_range : List ℤ → Bool
 all_in_range [] = true
@@ -40,9 +38,9 @@ word_of (Level z) = pick (eqb (of_z w16 z) 0x8000) 0x8001 (of_z w16 z)
 word_of Lost = 0x8000
 
 -- the word of a number; no sample has none, and silence stands in
-unfoldable pub word_in : SampleNumber → ℕ
-word_in (Sampled s) = word_of s
-word_in NoSample = 0
+unfoldable pub word_in : Option Sample → ℕ
+word_in (Some s) = word_of s
+word_in None = 0
 
 abbrev pub word_for : ℤ → ℕ
 word_for z = word_in (sample_in z)

@@ -1,11 +1,9 @@
 -- The four systems (document 01, "The four systems").
-use Rattle.std.specs.Prelude.{Bool, true, false, ◌||◌, List, [], ℕ, ◌*◌, ◌/◌, eqb}
+use Rattle.std.specs.Prelude.{Bool, true, false, ◌||◌, List, [], ℕ, ◌*◌, ◌/◌, eqb, Option, Some, None}
 use Rattle.base.specs.Calls.{Refusal}
 use Rattle.base.specs.Pick.{pick}
 use Rattle.paper.specs.declared.System.{System}
 use Rattle.paper.specs.declared.System.TheVariants.{I60, I50, P60, P50}
-use Rattle.paper.specs.declared.SystemNumber.{SystemNumber}
-use Rattle.paper.specs.declared.SystemNumber.TheVariants.{Known, NoSystem}
 use Rattle.paper.specs.declared.Counts.{Counts}
 
 -- ---- "Each system brings its own four numbers."
@@ -63,8 +61,8 @@ stype_of P50 = 0x18
 
 -- ---- the system's number
 
-unfoldable pub system_of : ℕ → SystemNumber
-system_of k = pick (eqb k 0) (Known I60) (pick (eqb k 1) (Known I50) (pick (eqb k 2) (Known P60) (pick (eqb k 3) (Known P50) NoSystem)))
+unfoldable pub system_of : ℕ → Option System
+system_of k = pick (eqb k 0) (Some I60) (pick (eqb k 1) (Some I50) (pick (eqb k 2) (Some P60) (pick (eqb k 3) (Some P50) None)))
 
 abbrev pub number_of_system : System → ℕ
 number_of_system I60 = 0
@@ -73,26 +71,26 @@ number_of_system P60 = 2
 number_of_system P50 = 3
 
 -- what is said of a system, and what stands in where there is none
-abbrev pub in_system : {A : Type 0} → A → (System → A) → SystemNumber → A
-in_system none of (Known y) = of y
-in_system none of NoSystem = none
+abbrev pub in_system : {A : Type 0} → A → (System → A) → Option System → A
+in_system none of (Some y) = of y
+in_system none of None = none
 
-abbrev pub is_no_system : SystemNumber → Bool
+abbrev pub is_no_system : Option System → Bool
 is_no_system = in_system true (λ (y : System). false)
 
-abbrev pub sequences_in : SystemNumber → ℕ
+abbrev pub sequences_in : Option System → ℕ
 sequences_in = in_system 0 sequences_of
 
-abbrev pub positions_in : SystemNumber → ℕ
+abbrev pub positions_in : Option System → ℕ
 positions_in = in_system 0 positions_of
 
-abbrev pub passes : (System → Bool) → SystemNumber → Bool
+abbrev pub passes : (System → Bool) → Option System → Bool
 passes = in_system false
 
 -- the rows of a call's refusal table that want a known system
-abbrev pub rows_in : SystemNumber → (System → List Refusal) → List Refusal
+abbrev pub rows_in : Option System → (System → List Refusal) → List Refusal
 rows_in s rows = in_system [] rows s
 
 -- frame length: 48,000·n
-abbrev pub frame_bytes : SystemNumber → ℕ
+abbrev pub frame_bytes : Option System → ℕ
 frame_bytes s = 48000 * sequences_in s

@@ -1,10 +1,10 @@
 -- The workshop of this crate's headline: its definitions in document 01's own bytes. Assumes nothing.
+use Rattle.std.specs.Prelude.{Some}
 use mathlib.Core.Path.{◌≡◌, refl, sym, ap, ◌∙◌}
 use Prim.Native.Nat.{ℕ, ◌/◌, ◌%◌}
 use lib.Dec.{eqb}
 use lib.ListN.{get_or}
 use Rattle.paper.specs.declared.System.{System}
-use Rattle.paper.specs.declared.SystemNumber.TheVariants.{Known}
 use Rattle.rules_format.specs.Systems.{system_of}
 use Rattle.rules_packs.specs.Subcode.{is_first, kind_of, subcode_bytes, ssybs}
 use Rattle.rules_packs.specs.Vaux.{vaux_bytes, vaux_packs}
@@ -20,7 +20,7 @@ use Rattle.rules_packs.proofs.Aaux.{as_means, as_when}
 
 -- ---- all
 
-pub in_bytes : (k : ℕ) (y : System) → system_of k ≡ Known y → InBytes k y
+pub in_bytes : (k : ℕ) (y : System) → system_of k ≡ Some y → InBytes k y
 unfolding subcode_bytes ssybs vaux_bytes vaux_packs
 in_bytes k y known = record {
   header = sym (header_form_lem k y known);

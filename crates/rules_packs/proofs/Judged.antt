@@ -1,4 +1,5 @@
 -- What is judged of a pack passes exactly where document 01 finds nothing wrong with its bytes. Assumes nothing.
+use Rattle.std.specs.Prelude.{Some}
 use mathlib.Core.Path.{◌≡◌, refl, sym, ap, ◌∙◌, subst}
 use mathlib.Core.Bool.{true, false}
 use mathlib.Core.List.{List, [], ◌∷◌}
@@ -9,7 +10,6 @@ use borrow.Author.Tests.{ne_eqb, eq-eqb}
 use Rattle.base.proofs.Cases.{by_lt, by_bool, by_eq, clash}
 use Rattle.paper.specs.declared.System.{System}
 use Rattle.paper.specs.declared.System.TheVariants.{I60, I50, P60, P50}
-use Rattle.paper.specs.declared.SystemNumber.TheVariants.{Known}
 use Rattle.paper.specs.declared.Pack.{Pack}
 use Rattle.rules_format.specs.Systems.{rate_of, stype_of, system_of, counts_of, is_count, number_of_system}
 use Rattle.rules_packs.specs.Vaux.{vs_at, vs_ok}
@@ -29,7 +29,7 @@ use Rattle.paper.specs.Bytes.WrongAs.{wrong_header, wrong_lf, wrong_size, wrong_
 
 -- ---- the counts of a system
 
-module _ (k : ℕ) (y : System) (known : system_of k ≡ Known y) (n : ℕ) where
+module _ (k : ℕ) (y : System) (known : system_of k ≡ Some y) (n : ℕ) where
   pub own_means : is_count y n ≡ true → OwnCount k n
   own_means e = let c = columns k y known in ⊎_elim (λ s. inl (s ∙ sym c.fewer_is)) (λ s. inr (s ∙ sym c.more_is)) (count_cases y n e)
 
@@ -70,7 +70,7 @@ digits_or values most b right wrong =
 digits_clash : (values most b : ℕ) → Digits values most b → WrongDigits values most b → ⊥
 digits_clash values most b d = ⊎_elim (λ l. omega (arith, l, d.units)) (λ l. omega (arith, l, d.value))
 
-module _ (k : ℕ) (y : System) (known : system_of k ≡ Known y) where
+module _ (k : ℕ) (y : System) (known : system_of k ≡ Some y) where
   cols : Columns k y
   cols = columns k y known
 

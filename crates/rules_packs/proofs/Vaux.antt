@@ -1,4 +1,5 @@
 -- Laws of the VAUX blocks. Assumes nothing.
+use Rattle.std.specs.Prelude.{Some}
 use mathlib.Core.Path.{◌≡◌, refl, sym, ◌∙◌}
 use mathlib.Core.Bool.{true, ◌&&◌}
 use mathlib.Core.List.{List, [], ◌∷◌, ◌++◌}
@@ -15,7 +16,6 @@ use Rattle.base.proofs.Picks.{pick_either, both_held}
 use Rattle.paper.specs.declared.System.{System}
 use Rattle.paper.specs.declared.System.TheVariants.{I60, I50, P60, P50}
 use Rattle.paper.specs.declared.Pack.{Pack}
-use Rattle.paper.specs.declared.SystemNumber.TheVariants.{Known}
 use Rattle.rules_format.specs.Systems.{rate_of, stype_of, system_of}
 use Rattle.rules_packs.specs.Packs.{pack_bytes}
 use Rattle.rules_packs.specs.Vaux.{vs_at, vs_pack, vaux_pack, vaux_packs, vaux_bytes, vs_ok, Vs, vaux_in}
@@ -58,7 +58,7 @@ vs_written P60 = refl
 vs_written P50 = refl
 
 -- rate and STYPE tell the four systems apart
-told : (y : System) → system_of (rate_of y + (stype_of y - 0x14) / 2) ≡ Known y
+told : (y : System) → system_of (rate_of y + (stype_of y - 0x14) / 2) ≡ Some y
 unfolding system_of pick
 told I60 = refl
 told I50 = refl
@@ -71,7 +71,7 @@ vs_tells y z e =
     let its = vs_means z (vs_pack z) (vs_written z) in
     let rate : rate_of y ≡ rate_of z = sym mine.rate ∙ its.rate in
     let stype : stype_of y ≡ stype_of z = sym mine.stype ∙ its.stype in
-    let known : Known y ≡ Known z = sym (told y) ∙ rw (rate, stype) (told z) in
+    let known : Some y ≡ Some z = sym (told y) ∙ rw (rate, stype) (told z) in
     cc
 
 -- ---- vsAt

@@ -1,4 +1,5 @@
 -- What is written in the blocks is what document 01 lays down there, byte by byte. Assumes nothing.
+use Rattle.std.specs.Prelude.{Some}
 use mathlib.Core.Path.{◌≡◌, refl, sym, ap, ap₂, ◌∙◌}
 use mathlib.Core.Bool.{Bool, true, false}
 use mathlib.Core.List.{List, [], ◌∷◌}
@@ -12,7 +13,6 @@ use Rattle.base.specs.Pick.{pick}
 use Rattle.base.proofs.Cases.{by_lt, by_bool}
 use Rattle.base.proofs.Picks.{pick_true, pick_false}
 use Rattle.paper.specs.declared.System.{System}
-use Rattle.paper.specs.declared.SystemNumber.TheVariants.{Known}
 use Rattle.paper.specs.declared.Pack.{Pack}
 use Rattle.paper.specs.declared.SubcodePack.{SubcodePack}
 use Rattle.paper.specs.declared.SubcodePack.TheVariants.{TimeCode, BinaryGroup, NoPack}
@@ -72,7 +72,7 @@ is_group_lem BinaryGroup e = refl
 is_group_lem TimeCode e = let z : ◌≡◌ {A = ℕ} 0 1 = cc in absurd (omega arith)
 is_group_lem NoPack e = let z : ◌≡◌ {A = ℕ} 0 1 = cc in absurd (omega arith)
 
-module _ (k : ℕ) (y : System) (known : system_of k ≡ Known y) (q : ℕ) where
+module _ (k : ℕ) (y : System) (known : system_of k ≡ Some y) (q : ℕ) where
   -- "the first n/2 sequences"
   pub half_first : ltb q (sequences k / 2) ≡ is_first y q
   unfolding half_of
@@ -118,7 +118,7 @@ second_half s q some g l =
     let rest : q - s < s = omega arith in
     ap (λ (x : ℕ). x / s) e ∙ mul-add-div some 1 (q - s) ∙ omega (arith, div-eq_of_lt rest)
 
-module _ (k : ℕ) (y : System) (known : system_of k ≡ Known y) where
+module _ (k : ℕ) (y : System) (known : system_of k ≡ Some y) where
   abbrev is : Columns k y
   is = columns k y known
 

@@ -1,4 +1,5 @@
 -- Laws of the picture slots: every macroblock lies in exactly one slot. Assumes nothing.
+use Rattle.std.specs.Prelude.{Option, Some, None}
 use mathlib.Core.Path.{◌≡◌, refl, sym, ap, ◌∙◌}
 use mathlib.Core.Bool.{Bool, true, false, not, ◌&&◌}
 use Prim.Native.Nat.{ℕ, ◌<◌, ◌≤◌}
@@ -12,10 +13,6 @@ use Rattle.base.proofs.Picks.{pick_true, pick_false, pick_either, both_held}
 use Rattle.paper.specs.declared.System.{System}
 use Rattle.paper.specs.declared.System.TheVariants.{I60, I50, P60, P50}
 use Rattle.paper.specs.declared.Slot.{Slot}
-use Rattle.paper.specs.declared.Carried.{Carried}
-use Rattle.paper.specs.declared.Carried.TheVariants.{Macroblock, Nothing}
-use Rattle.paper.specs.declared.Carrier.{Carrier}
-use Rattle.paper.specs.declared.Carrier.TheVariants.{In, NoSlot}
 use Rattle.rules_format.specs.Systems.{sequences_of, macroblocks_of}
 use Rattle.rules_picture.specs.Picture.{slot, ten_carries, eleven_carries, within, carries_of, carried_in, ten_found, eleven_found, carrier_of, carried_by}
 use Rattle.rules_picture.specs.Rows.{meets, rows_agree, table22, table23, table24, printed_rows}
@@ -31,7 +28,7 @@ rows_agree_lem = tt
 -- ---- what they say, of every system
 
 -- the slot of a macroblock carries it
-pub carrier_carries : (y : System) (b : ℕ) → b < macroblocks_of y → carried_by (carried_in y) (carrier_of y b) ≡ Macroblock b
+pub carrier_carries : (y : System) (b : ℕ) → b < macroblocks_of y → carried_by (carried_in y) (carrier_of y b) ≡ Some b
 carrier_carries I60 = ten_forth
 carrier_carries I50 = eleven_forth
 carrier_carries P60 = ten_forth
@@ -43,73 +40,73 @@ pub record Inside (y : System) (s : Slot) : Type 0 where
   pub sequence : s.sequence < sequences_of y
   pub video : s.video.0 < 135
 
-within_carried : (f : ℕ → ℕ → ℕ → Carried) (s : Slot) (b : ℕ) → within f s ≡ Macroblock b
-    → (s.channel < 4) × (s.video.0 < 135) × (f s.channel s.sequence s.video.0 ≡ Macroblock b)
+within_carried : (f : ℕ → ℕ → ℕ → Option ℕ) (s : Slot) (b : ℕ) → within f s ≡ Some b
+    → (s.channel < 4) × (s.video.0 < 135) × (f s.channel s.sequence s.video.0 ≡ Some b)
 unfolding within
 within_carried f s b e =
     let p = carried_picked (ltb s.channel 4) _ b e in
     let r = carried_picked (ltb s.video.0 135) _ b p.1 in
     (ltb-true _ _ p.0, ltb-true _ _ r.0, r.1)
 
-ten_sequence : (h q v b : ℕ) → ten_carries h q v ≡ Macroblock b → q < 10
+ten_sequence : (h q v b : ℕ) → ten_carries h q v ≡ Some b → q < 10
 unfolding ten_carries
 ten_sequence h q v b e = ltb-true q 10 (carried_picked (ltb q 10) _ b e).0
 
-eleven_either : (t : Bool) (q : ℕ) (x z : Carried) (b : ℕ) → t ≡ ltb q 11 → pick t x (pick (eqb q 11) z Nothing) ≡ Macroblock b → q < 12
+eleven_either : (t : Bool) (q : ℕ) (x z : Option ℕ) (b : ℕ) → t ≡ ltb q 11 → pick t x (pick (eqb q 11) z None) ≡ Some b → q < 12
 unfolding pick
 eleven_either true q x z b et e = omega (arith, ltb-true q 11 (sym et))
 eleven_either false q x z b et e = omega (arith, eqb-true q 11 (carried_picked (eqb q 11) z b e).0)
 
-eleven_sequence : (h q v b : ℕ) → eleven_carries h q v ≡ Macroblock b → q < 12
+eleven_sequence : (h q v b : ℕ) → eleven_carries h q v ≡ Some b → q < 12
 unfolding eleven_carries
 eleven_sequence h q v b e = eleven_either (ltb q 11) q _ _ b refl e
 
 -- what carries a macroblock is a slot of the system
-pub carried_inside : (y : System) (s : Slot) (b : ℕ) → carried_in y s ≡ Macroblock b → Inside y s
+pub carried_inside : (y : System) (s : Slot) (b : ℕ) → carried_in y s ≡ Some b → Inside y s
 carried_inside y s b e = let w = within_carried (carries_of y) s b e in record { channel = w.0; sequence = by_system y w.2; video = w.1 }
   where
-    by_system : (y : System) → carries_of y s.channel s.sequence s.video.0 ≡ Macroblock b → s.sequence < sequences_of y
+    by_system : (y : System) → carries_of y s.channel s.sequence s.video.0 ≡ Some b → s.sequence < sequences_of y
     by_system I60 r = ten_sequence _ _ _ b r
     by_system I50 r = eleven_sequence _ _ _ b r
     by_system P60 r = ten_sequence _ _ _ b r
     by_system P50 r = let l : s.sequence < 10 = ten_sequence _ _ _ b r in omega arith
 
-ten_lies : (s : Slot) (b : ℕ) → within ten_carries s ≡ Macroblock b → (b < 5400) × (ten_found b ≡ In s)
+ten_lies : (s : Slot) (b : ℕ) → within ten_carries s ≡ Some b → (b < 5400) × (ten_found b ≡ Some s)
 ten_lies s b e = let w = within_carried ten_carries s b e in ten_back _ _ _ b w.0 (ten_sequence _ _ _ b w.2) w.1 w.2
 
-eleven_lies : (s : Slot) (b : ℕ) → within eleven_carries s ≡ Macroblock b → (b < 6075) × (eleven_found b ≡ In s)
+eleven_lies : (s : Slot) (b : ℕ) → within eleven_carries s ≡ Some b → (b < 6075) × (eleven_found b ≡ Some s)
 eleven_lies s b e = let w = within_carried eleven_carries s b e in eleven_back _ _ _ b w.0 (eleven_sequence _ _ _ b w.2) w.1 w.2
 
 -- what a slot carries is one of the system's macroblocks, and lies in that slot
-pub carried_lies : (y : System) (s : Slot) (b : ℕ) → carried_in y s ≡ Macroblock b → (b < macroblocks_of y) × (carrier_of y b ≡ In s)
+pub carried_lies : (y : System) (s : Slot) (b : ℕ) → carried_in y s ≡ Some b → (b < macroblocks_of y) × (carrier_of y b ≡ Some s)
 carried_lies I60 = ten_lies
 carried_lies I50 = eleven_lies
 carried_lies P60 = ten_lies
 carried_lies P50 = ten_lies
 
-lies : (y : System) (b : ℕ) (r : Carrier) → carrier_of y b ≡ r → carried_by (carried_in y) r ≡ Macroblock b → ExactlyOne Slot (λ s. carried_in y s ≡ Macroblock b)
-lies y b (In s) e m =
+lies : (y : System) (b : ℕ) (r : Option Slot) → carrier_of y b ≡ r → carried_by (carried_in y) r ≡ Some b → ExactlyOne Slot (λ s. carried_in y s ≡ Some b)
+lies y b (Some s) e m =
     record {
       outcome = s;
       meets = m;
-      only = λ other c. let f : carrier_of y b ≡ In other = (carried_lies y other b c).1 in let g : In other ≡ In s = sym f ∙ e in cc;
+      only = λ other c. let f : carrier_of y b ≡ Some other = (carried_lies y other b c).1 in let g : Some other ≡ Some s = sym f ∙ e in cc;
     }
-lies y b NoSlot e m = let q : ◌≡◌ {A = ℕ} 0 1 = cc in absurd (omega arith)
+lies y b None e m = let q : ◌≡◌ {A = ℕ} 0 1 = cc in absurd (omega arith)
 
 -- every macroblock of the system lies in exactly one slot
-pub carrier_one : (y : System) (b : ℕ) → b < macroblocks_of y → ExactlyOne Slot (λ s. carried_in y s ≡ Macroblock b)
+pub carrier_one : (y : System) (b : ℕ) → b < macroblocks_of y → ExactlyOne Slot (λ s. carried_in y s ≡ Some b)
 carrier_one y b h = lies y b (carrier_of y b) refl (carrier_carries y b h)
 
-ten_past : (b : ℕ) → 5400 ≤ b → ten_found b ≡ NoSlot
+ten_past : (b : ℕ) → 5400 ≤ b → ten_found b ≡ None
 unfolding ten_found pick
 ten_past b h = rw (le-ltb b 5400 h) refl
 
-eleven_past : (b : ℕ) → 6075 ≤ b → eleven_found b ≡ NoSlot
+eleven_past : (b : ℕ) → 6075 ≤ b → eleven_found b ≡ None
 unfolding eleven_found pick
 eleven_past b h = rw (le-ltb b 5940 (omega arith), le-ltb b 6075 h) refl
 
 -- a number past the system's macroblocks lies in no slot
-pub carrier_past : (y : System) (b : ℕ) → macroblocks_of y ≤ b → carrier_of y b ≡ NoSlot
+pub carrier_past : (y : System) (b : ℕ) → macroblocks_of y ≤ b → carrier_of y b ≡ None
 carrier_past I60 = ten_past
 carrier_past I50 = eleven_past
 carrier_past P60 = ten_past
@@ -128,21 +125,21 @@ right_false : (a b : Bool) → a ≡ true → (a && b) ≡ false → b ≡ false
 right_false true b t e = e
 right_false false b t e = let q : ◌≡◌ {A = ℕ} 0 1 = cc in absurd (omega arith)
 
-nothing_within : (f : ℕ → ℕ → ℕ → Carried) (s : Slot) → f s.channel s.sequence s.video.0 ≡ Nothing → within f s ≡ Nothing
+nothing_within : (f : ℕ → ℕ → ℕ → Option ℕ) (s : Slot) → f s.channel s.sequence s.video.0 ≡ None → within f s ≡ None
 unfolding within
-nothing_within f s e = rw e (pick_either (λ (r : Carried). r ≡ Nothing) (ltb s.channel 4) (pick_either (λ (r : Carried). r ≡ Nothing) (ltb s.video.0 135) refl refl) refl)
+nothing_within f s e = rw e (pick_either (λ (r : Option ℕ). r ≡ None) (ltb s.channel 4) (pick_either (λ (r : Option ℕ). r ≡ None) (ltb s.video.0 135) refl refl) refl)
 
 -- sequence 11 of DIF channels 1 to 3 of system 1
-pub edge_others_none : (h v : ℕ) → 0 < h → carried_in I50 (slot h 11 v) ≡ Nothing
+pub edge_others_none : (h v : ℕ) → 0 < h → carried_in I50 (slot h 11 v) ≡ None
 unfolding eleven_carries pick
 edge_others_none h v l = nothing_within eleven_carries (slot h 11 v) (rw (ne_eqb h 0 (λ e. omega arith)) refl)
 
 -- sequences 10 and 11 of system 3
-pub late_none : (h q v : ℕ) → 10 ≤ q → carried_in P50 (slot h q v) ≡ Nothing
+pub late_none : (h q v : ℕ) → 10 ≤ q → carried_in P50 (slot h q v) ≡ None
 unfolding ten_carries pick
 late_none h q v l = nothing_within ten_carries (slot h q v) (rw (le-ltb q 10 l) refl)
 
-pub remaining_none : (y : System) (s : Slot) → remaining y s ≡ true → carried_in y s ≡ Nothing
+pub remaining_none : (y : System) (s : Slot) → remaining y s ≡ true → carried_in y s ≡ None
 remaining_none I60 s e = let q : ◌≡◌ {A = ℕ} 0 1 = cc in absurd (omega arith)
 remaining_none I50 s e =
     let p = both_held (eqb s.sequence 11) (ltb 0 s.channel) e in
@@ -155,14 +152,14 @@ remaining_none P50 s e = late_none s.channel s.sequence s.video.0 (ltb-false _ _
 pub record Carries (y : System) (s : Slot) : Type 0 where
   pub number : ℕ
   pub below : number < macroblocks_of y
-  pub carried : carried_in y s ≡ Macroblock number
+  pub carried : carried_in y s ≡ Some number
 
-carries : (y : System) (s : Slot) (b : ℕ) → carried_in y s ≡ Macroblock b → Carries y s
+carries : (y : System) (s : Slot) (b : ℕ) → carried_in y s ≡ Some b → Carries y s
 carries y s b e = record { number = b; below = (carried_lies y s b e).0; carried = e }
 
 ten_there : (y : System) (s : Slot) → carries_of y ≡ ten_carries → s.channel < 4 → s.sequence < 10 → s.video.0 < 135 → Carries y s
 unfolding ten_carries
-ten_there y s e h q v = carries y s _ (ap (λ (f : ℕ → ℕ → ℕ → Carried). within f s) e ∙ within_there ten_carries s h v ∙ pick_true _ _ (lt-ltb _ _ q))
+ten_there y s e h q v = carries y s _ (ap (λ (f : ℕ → ℕ → ℕ → Option ℕ). within f s) e ∙ within_there ten_carries s h v ∙ pick_true _ _ (lt-ltb _ _ q))
 
 -- every other slot of the system carries one
 pub others_carry : (y : System) (s : Slot) → Inside y s → remaining y s ≡ false → Carries y s

@@ -1,5 +1,6 @@
 -- The slot of a macroblock carries it, and a macroblock lies in the slot that carries it: a rule of R rows, by the parts of a number and of a slot, each with
 -- its way back; then ten rows, eleven rows and the edge unit. Assumes nothing.
+use Rattle.std.specs.Prelude.{Option, Some, None}
 use mathlib.Core.Path.{◌≡◌, refl, sym, ap, subst, ◌∙◌}
 use mathlib.Core.Bool.{Bool, true, false}
 use Prim.Native.Nat.{ℕ, ◌+◌, ◌-◌, ◌*◌, ◌/◌, ◌%◌, ◌<◌, ◌≤◌}
@@ -13,10 +14,6 @@ use Rattle.base.proofs.Cases.{by_lt}
 use Rattle.base.proofs.Picks.{pick_true, pick_false}
 use Rattle.base.proofs.Below.{below_at}
 use Rattle.paper.specs.declared.Slot.{Slot}
-use Rattle.paper.specs.declared.Carried.{Carried}
-use Rattle.paper.specs.declared.Carried.TheVariants.{Macroblock, Nothing}
-use Rattle.paper.specs.declared.Carrier.{Carrier}
-use Rattle.paper.specs.declared.Carrier.TheVariants.{In}
 use Rattle.rules_picture.specs.Picture.{slot, step_of, column_of, macroblock, unit_of, turn_of, ten_carries, eleven_carries, within, unit_at, slot_at, ten_turn}
 use Rattle.rules_picture.specs.Picture.{ten_found, eleven_found, carried_by}
 
@@ -121,9 +118,9 @@ slot_by R turn b =
     slot_at (b / 135 / R) (turn b (order_at R (b / 135 / R) (unit_at (b / 27 % 5)) (b / 135 % R))) (unit_at (b / 27 % 5))
 
 -- f says what a slot carries and g where a macroblock lies; z has an order below R and a place below 27, and `turn` is the way back
-record Ruled (R : ℕ) (order place : ℕ → ℕ) (turn : ℕ → ℕ → ℕ) (f : ℕ → ℕ → ℕ → Carried) (g : ℕ → Carrier) : Type 0 where
-  carries : (h q v : ℕ) → q < R → v < 135 → f h q v ≡ Macroblock (number_by R order place h (turn_of q v) (unit_of v))
-  found : (b : ℕ) → b < 540 * R → g b ≡ In (slot_by R turn b)
+record Ruled (R : ℕ) (order place : ℕ → ℕ) (turn : ℕ → ℕ → ℕ) (f : ℕ → ℕ → ℕ → Option ℕ) (g : ℕ → Option Slot) : Type 0 where
+  carries : (h q v : ℕ) → q < R → v < 135 → f h q v ≡ Some (number_by R order place h (turn_of q v) (unit_of v))
+  found : (b : ℕ) → b < 540 * R → g b ≡ Some (slot_by R turn b)
   rows : 0 < R
   order_row : (h m o : ℕ) → h < 4 → m < 5 → o < R → order_at R h m (row_at R h m o) ≡ o
   row_order : (h m row : ℕ) → h < 4 → m < 5 → row < R → row_at R h m (order_at R h m row) ≡ row
@@ -134,13 +131,13 @@ record Ruled (R : ℕ) (order place : ℕ → ℕ) (turn : ℕ → ℕ → ℕ) 
   place_below : (z : ℕ) → z < 27 * R → place z < 27
   turn_below : (b o : ℕ) → o < R → turn b o < 27 * R
 
-pub within_there : (f : ℕ → ℕ → ℕ → Carried) (s : Slot) → s.channel < 4 → s.video.0 < 135 → within f s ≡ f s.channel s.sequence s.video.0
+pub within_there : (f : ℕ → ℕ → ℕ → Option ℕ) (s : Slot) → s.channel < 4 → s.video.0 < 135 → within f s ≡ f s.channel s.sequence s.video.0
 unfolding within
 within_there f s h v = pick_true _ _ (lt-ltb _ _ h) ∙ pick_true _ _ (lt-ltb _ _ v)
 
-module _ {R : ℕ} {order place : ℕ → ℕ} {turn : ℕ → ℕ → ℕ} {f : ℕ → ℕ → ℕ → Carried} {g : ℕ → Carrier} (rule : Ruled R order place turn f g) where
+module _ {R : ℕ} {order place : ℕ → ℕ} {turn : ℕ → ℕ → ℕ} {f : ℕ → ℕ → ℕ → Option ℕ} {g : ℕ → Option Slot} (rule : Ruled R order place turn f g) where
   -- the slot of a macroblock carries it
-  forth_by : (b : ℕ) → b < 540 * R → carried_by (within f) (g b) ≡ Macroblock b
+  forth_by : (b : ℕ) → b < 540 * R → carried_by (within f) (g b) ≡ Some b
   forth_by b hb =
       let h = b / 135 / R in
       let row = b / 135 % R in
@@ -158,14 +155,14 @@ module _ {R : ℕ} {order place : ℕ → ℕ} {turn : ℕ → ℕ → ℕ} {f :
       ap (carried_by (within f)) (rule.found b hb)
       ∙ within_there f (slot_by R turn b) lh lv
       ∙ rule.carries h (z / 27) (5 * (z % 27) + m) lq lv
-      ∙ (λ i. Macroblock (number_by R order place h (slot_turn z m lm i) (slot_unit z m lm i)))
-      ∙ (λ i. Macroblock (macroblock (R * h + row_at R h m (rule.order_turn b o lo i)) (column_unit column lc i) (rule.place_turn b o lo i)))
-      ∙ (λ i. Macroblock (macroblock (R * h + rule.row_order h m row lh lm lr i) column (b % 27)))
-      ∙ (λ i. Macroblock (macroblock (div-add-mod (b / 135) R i) column (b % 27)))
-      ∙ ap Macroblock (number_parts b)
+      ∙ (λ i. Some (number_by R order place h (slot_turn z m lm i) (slot_unit z m lm i)))
+      ∙ (λ i. Some (macroblock (R * h + row_at R h m (rule.order_turn b o lo i)) (column_unit column lc i) (rule.place_turn b o lo i)))
+      ∙ (λ i. Some (macroblock (R * h + rule.row_order h m row lh lm lr i) column (b % 27)))
+      ∙ (λ i. Some (macroblock (div-add-mod (b / 135) R i) column (b % 27)))
+      ∙ ap Some (number_parts b)
 
   -- the number that a slot carries is below 540·R, and lies in that slot
-  lies_by : (h q v n : ℕ) → h < 4 → q < R → v < 135 → n ≡ number_by R order place h (turn_of q v) (unit_of v) → (n < 540 * R) × (g n ≡ In (slot h q v))
+  lies_by : (h q v n : ℕ) → h < 4 → q < R → v < 135 → n ≡ number_by R order place h (turn_of q v) (unit_of v) → (n < 540 * R) × (g n ≡ Some (slot h q v))
   lies_by h q v n lh lq lv e =
       let z = turn_of q v in
       let m = unit_of v in
@@ -183,13 +180,13 @@ module _ {R : ℕ} {order place : ℕ → ℕ} {turn : ℕ → ℕ → ℕ} {f :
       let less : n < 540 * R = rw e (number_below (R * h + row) (column_of m) (place z) lc lk R (rows_below R h row lr lh)) in (
         less,
         rule.found n less
-            ∙ (λ i. In (slot_at (h_is i) (turn n (order_at R (h_is i) (m_is i) (r_is i))) (m_is i)))
-            ∙ (λ i. In (slot_at h (turn n (rule.order_row h m (order z) lh lm (rule.order_below z) i)) m))
-            ∙ (λ i. In (slot_at h (rule.turn_order n z lz k_is i) m))
-            ∙ (λ i. In (slot h (turn_sequence q v lv i) (turn_video q v lv i))),
+            ∙ (λ i. Some (slot_at (h_is i) (turn n (order_at R (h_is i) (m_is i) (r_is i))) (m_is i)))
+            ∙ (λ i. Some (slot_at h (turn n (rule.order_row h m (order z) lh lm (rule.order_below z) i)) m))
+            ∙ (λ i. Some (slot_at h (rule.turn_order n z lz k_is i) m))
+            ∙ (λ i. Some (slot h (turn_sequence q v lv i) (turn_video q v lv i))),
       )
 
-  back_by : (h q v b : ℕ) → h < 4 → q < R → v < 135 → f h q v ≡ Macroblock b → (b < 540 * R) × (g b ≡ In (slot h q v))
+  back_by : (h q v b : ℕ) → h < 4 → q < R → v < 135 → f h q v ≡ Some b → (b < 540 * R) × (g b ≡ Some (slot h q v))
   back_by h q v b lh lq lv e = lies_by h q v b lh lq lv (let c = rule.carries h q v lq lv in cc)
 
 -- ---- tenCarries, tenFound: the order of z is q div 5 + 2z
@@ -200,14 +197,14 @@ ten_order_of z = (z / 27 / 5 + 2 * z) % 10
 abbrev ten_place_of : ℕ → ℕ
 ten_place_of z = z / 5 % 27
 
-ten_carries_lem : (h q v : ℕ) → q < 10 → v < 135 → ten_carries h q v ≡ Macroblock (number_by 10 ten_order_of ten_place_of h (turn_of q v) (unit_of v))
+ten_carries_lem : (h q v : ℕ) → q < 10 → v < 135 → ten_carries h q v ≡ Some (number_by 10 ten_order_of ten_place_of h (turn_of q v) (unit_of v))
 unfolding ten_carries
 ten_carries_lem h q v lq lv = rw (← i_is) (pick_true _ _ (lt-ltb q _ (omega (arith, lq))))
   where
     i_is : (4 * h + q / 5 + 2 * turn_of q v) % 10 ≡ (4 * h + ten_order_of (turn_of q v)) % 10
     i_is = rw (turn_sequence q v lv) (omega arith)
 
-ten_found_lem : (b : ℕ) → b < 5400 → ten_found b ≡ In (slot_by 10 ten_turn b)
+ten_found_lem : (b : ℕ) → b < 5400 → ten_found b ≡ Some (slot_by 10 ten_turn b)
 unfolding ten_found
 ten_found_lem b l = rw (div-div-eq-div-mul b 135 10) (pick_true _ _ (lt-ltb b 5400 l))
 
@@ -242,22 +239,22 @@ ten_ruled = record {
   turn_below = λ b o l. omega arith;
 }
 
-pub ten_forth : (b : ℕ) → b < 5400 → carried_by (within ten_carries) (ten_found b) ≡ Macroblock b
+pub ten_forth : (b : ℕ) → b < 5400 → carried_by (within ten_carries) (ten_found b) ≡ Some b
 ten_forth = forth_by ten_ruled
 
-pub ten_back : (h q v b : ℕ) → h < 4 → q < 10 → v < 135 → ten_carries h q v ≡ Macroblock b → (b < 5400) × (ten_found b ≡ In (slot h q v))
+pub ten_back : (h q v b : ℕ) → h < 4 → q < 10 → v < 135 → ten_carries h q v ≡ Some b → (b < 5400) × (ten_found b ≡ Some (slot h q v))
 ten_back = back_by ten_ruled
 
 -- ---- elevenCarries, elevenFound: z is 11 times its place and its order
 
-eleven_carries_lem : (h q v : ℕ) → q < 11 → v < 135 → eleven_carries h q v ≡ Macroblock (number_by 11 (λ (z : ℕ). z % 11) (λ (z : ℕ). z / 11) h (turn_of q v) (unit_of v))
+eleven_carries_lem : (h q v : ℕ) → q < 11 → v < 135 → eleven_carries h q v ≡ Some (number_by 11 (λ (z : ℕ). z % 11) (λ (z : ℕ). z / 11) h (turn_of q v) (unit_of v))
 unfolding eleven_carries
 eleven_carries_lem h q v lq lv = rw (← i_is) (pick_true _ _ (lt-ltb q 11 lq))
   where
     i_is : (4 * h + turn_of q v) % 11 ≡ (4 * h + turn_of q v % 11) % 11
     i_is = omega arith
 
-eleven_found_lem : (b : ℕ) → b < 5940 → eleven_found b ≡ In (slot_by 11 (λ (n o : ℕ). 11 * (n % 27) + o) b)
+eleven_found_lem : (b : ℕ) → b < 5940 → eleven_found b ≡ Some (slot_by 11 (λ (n o : ℕ). 11 * (n % 27) + o) b)
 unfolding eleven_found
 eleven_found_lem b l = rw (div-div-eq-div-mul b 135 11) (pick_true _ _ (lt-ltb b 5940 l))
 
@@ -278,40 +275,40 @@ eleven_ruled = record {
 
 -- ---- elevenCarries, elevenFound: the edge unit, sequence 11 of DIF channel 0
 
-pub carried_picked : (t : Bool) (x : Carried) (b : ℕ) → pick t x Nothing ≡ Macroblock b → (t ≡ true) × (x ≡ Macroblock b)
+pub carried_picked : (t : Bool) (x : Option ℕ) (b : ℕ) → pick t x None ≡ Some b → (t ≡ true) × (x ≡ Some b)
 unfolding pick
 carried_picked true x b e = (refl, e)
 carried_picked false x b e = let q : ◌≡◌ {A = ℕ} 0 1 = cc in absurd (omega arith)
 
-edge_carries : (h v : ℕ) → eleven_carries h 11 v ≡ pick (eqb h 0) (Macroblock (5940 + 27 * (v % 5) + v / 5)) Nothing
+edge_carries : (h v : ℕ) → eleven_carries h 11 v ≡ pick (eqb h 0) (Some (5940 + 27 * (v % 5) + v / 5)) None
 unfolding eleven_carries pick
 edge_carries h v = refl
 
-edge_found : (b : ℕ) → 5940 ≤ b → b < 6075 → eleven_found b ≡ In (slot 0 11 (5 * ((b - 5940) % 27) + (b - 5940) / 27))
+edge_found : (b : ℕ) → 5940 ≤ b → b < 6075 → eleven_found b ≡ Some (slot 0 11 (5 * ((b - 5940) % 27) + (b - 5940) / 27))
 unfolding eleven_found
 edge_found b past l = pick_false _ _ (le-ltb b 5940 past) ∙ pick_true _ _ (lt-ltb b 6075 l)
 
-edge_forth : (b : ℕ) → 5940 ≤ b → b < 6075 → carried_by (within eleven_carries) (eleven_found b) ≡ Macroblock b
+edge_forth : (b : ℕ) → 5940 ≤ b → b < 6075 → carried_by (within eleven_carries) (eleven_found b) ≡ Some b
 edge_forth b past l =
     let v = 5 * ((b - 5940) % 27) + (b - 5940) / 27 in
     ap (carried_by (within eleven_carries)) (edge_found b past l)
     ∙ within_there eleven_carries (slot 0 11 v) (omega arith) (omega arith)
     ∙ edge_carries 0 v
     ∙ pick_true _ _ (eq-eqb 0 0 refl)
-    ∙ ap Macroblock (omega arith)
+    ∙ ap Some (omega arith)
 
-edge_back : (h v b : ℕ) → v < 135 → eleven_carries h 11 v ≡ Macroblock b → (b < 6075) × (eleven_found b ≡ In (slot h 11 v))
+edge_back : (h v b : ℕ) → v < 135 → eleven_carries h 11 v ≡ Some b → (b < 6075) × (eleven_found b ≡ Some (slot h 11 v))
 edge_back h v b l e =
     let p = carried_picked (eqb h 0) _ b (sym (edge_carries h v) ∙ e) in
     let first : 0 ≡ h = sym (eqb-true h 0 p.0) in
     let number : 5940 + 27 * (v % 5) + v / 5 ≡ b = let c = p.1 in cc in
     let video : 5 * ((b - 5940) % 27) + (b - 5940) / 27 ≡ v = omega arith in
-    (omega arith, edge_found b (omega arith) (omega arith) ∙ (λ i. In (slot (first i) 11 (video i))))
+    (omega arith, edge_found b (omega arith) (omega arith) ∙ (λ i. Some (slot (first i) 11 (video i))))
 
-pub eleven_forth : (b : ℕ) → b < 6075 → carried_by (within eleven_carries) (eleven_found b) ≡ Macroblock b
+pub eleven_forth : (b : ℕ) → b < 6075 → carried_by (within eleven_carries) (eleven_found b) ≡ Some b
 eleven_forth b l = by_lt b 5940 (forth_by eleven_ruled b) (λ past. edge_forth b past l)
 
-pub eleven_back : (h q v b : ℕ) → h < 4 → q < 12 → v < 135 → eleven_carries h q v ≡ Macroblock b → (b < 6075) × (eleven_found b ≡ In (slot h q v))
+pub eleven_back : (h q v b : ℕ) → h < 4 → q < 12 → v < 135 → eleven_carries h q v ≡ Some b → (b < 6075) × (eleven_found b ≡ Some (slot h q v))
 eleven_back h q v b lh lq lv e =
     by_lt q 11
     (λ l. let r = back_by eleven_ruled h q v b lh l lv e in (omega (arith, r.0), r.1))

@@ -1,4 +1,5 @@
 -- The workshop of this crate's headline: the picture slots in document 01's own numbers. Assumes nothing.
+use Rattle.std.specs.Prelude.{Some, None}
 use mathlib.Core.Path.{◌≡◌, refl, sym, ap, ◌∙◌}
 use mathlib.Core.List.{[], ◌∷◌}
 use Prim.Native.Nat.{ℕ, ◌+◌, ◌*◌, ◌/◌, ◌%◌, ◌<◌}
@@ -10,8 +11,6 @@ use Rattle.base.specs.Pick.{pick}
 use Rattle.base.proofs.Cases.{by_lt}
 use Rattle.paper.specs.declared.System.{System}
 use Rattle.paper.specs.declared.System.TheVariants.{I60, I50, P60, P50}
-use Rattle.paper.specs.declared.SystemNumber.TheVariants.{Known}
-use Rattle.paper.specs.declared.Carried.TheVariants.{Macroblock, Nothing}
 use Rattle.rules_format.specs.Systems.{sequences_of, system_of}
 use Rattle.rules_picture.specs.Picture.{slot, ten_carries, eleven_carries, carried_in, within}
 use Rattle.paper.specs.Paper.{ten_rows, eleven_rows, carried, macroblocks}
@@ -29,19 +28,19 @@ module _ (h q g m : ℕ) (hg : g < 27) (hm : m < 5) where
   unit_is : (5 * g + m) % 5 ≡ m
   unit_is = omega arith
 
-  ten_is : ten_carries h q (5 * g + m) ≡ pick (ltb q 10) (Macroblock (ten_rows h q g m)) Nothing
+  ten_is : ten_carries h q (5 * g + m) ≡ pick (ltb q 10) (Some (ten_rows h q g m)) None
   unfolding ten_carries
   ten_is = rw (group_is, unit_is) refl
 
   eleven_is : q < 12
-      → eleven_carries h q (5 * g + m) ≡ pick (ltb q 11) (Macroblock (eleven_rows h q g m)) (pick (eqb h 0) (Macroblock (5940 + 27 * m + g)) Nothing)
+      → eleven_carries h q (5 * g + m) ≡ pick (ltb q 11) (Some (eleven_rows h q g m)) (pick (eqb h 0) (Some (5940 + 27 * m + g)) None)
   unfolding eleven_carries pick
   eleven_is hq =
       by_lt q 11
       (λ l. rw (lt-ltb q 11 l, group_is, unit_is) refl)
       (λ l. let last : q ≡ 11 = omega arith in rw (last, group_is, unit_is) refl)
 
-  pub carried_is : (k : ℕ) (y : System) → system_of k ≡ Known y → h < 4 → q < sequences_of y → carried_in y (slot h q (5 * g + m)) ≡ carried k h q g m
+  pub carried_is : (k : ℕ) (y : System) → system_of k ≡ Some y → h < 4 → q < sequences_of y → carried_in y (slot h q (5 * g + m)) ≡ carried k h q g m
   unfolding carried pick
   carried_is k I60 known hh hq = within_there ten_carries (slot h q (5 * g + m)) hh (omega arith) ∙ ten_is ∙ rw (number_known k I60 known) refl
   carried_is k I50 known hh hq = within_there eleven_carries (slot h q (5 * g + m)) hh (omega arith) ∙ eleven_is hq ∙ rw (number_known k I50 known) refl

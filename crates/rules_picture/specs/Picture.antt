@@ -1,13 +1,9 @@
 -- Picture slots (document 01, "Picture slots").
-use Rattle.std.specs.Prelude.{[], ◌∷◌, ℕ, ◌+◌, ◌-◌, ◌*◌, ◌/◌, ◌%◌, ltb, eqb, get_or}
+use Rattle.std.specs.Prelude.{[], ◌∷◌, ℕ, ◌+◌, ◌-◌, ◌*◌, ◌/◌, ◌%◌, ltb, eqb, get_or, Option, Some, None}
 use Rattle.base.specs.Pick.{pick}
 use Rattle.paper.specs.declared.System.{System}
 use Rattle.paper.specs.declared.System.TheVariants.{I60, I50, P60, P50}
 use Rattle.paper.specs.declared.Slot.{Slot}
-use Rattle.paper.specs.declared.Carried.{Carried}
-use Rattle.paper.specs.declared.Carried.TheVariants.{Macroblock, Nothing}
-use Rattle.paper.specs.declared.Carrier.{Carrier}
-use Rattle.paper.specs.declared.Carrier.TheVariants.{In, NoSlot}
 
 -- slot V(v) of sequence q of DIF channel h
 abbrev pub slot : ℕ → ℕ → ℕ → Slot
@@ -46,26 +42,26 @@ abbrev pub edge_number : ℕ → ℕ
 edge_number v = 5940 + 27 * (v % 5) + v / 5
 
 -- "Remaining slots (system 1: sequence 11 of channels 1-3; system 3: sequences 10, 11) carry none"
-unfoldable pub ten_carries : ℕ → ℕ → ℕ → Carried
-ten_carries h q v = pick (ltb q 10) (Macroblock (ten_number h q (turn_of q v) (unit_of v))) Nothing
+unfoldable pub ten_carries : ℕ → ℕ → ℕ → Option ℕ
+ten_carries h q v = pick (ltb q 10) (Some (ten_number h q (turn_of q v) (unit_of v))) None
 
-unfoldable pub eleven_carries : ℕ → ℕ → ℕ → Carried
+unfoldable pub eleven_carries : ℕ → ℕ → ℕ → Option ℕ
 eleven_carries h q v =
-    pick (ltb q 11) (Macroblock (eleven_number h (turn_of q v) (unit_of v)))
-    (pick (eqb q 11) (pick (eqb h 0) (Macroblock (edge_number v)) Nothing) Nothing)
+    pick (ltb q 11) (Some (eleven_number h (turn_of q v) (unit_of v)))
+    (pick (eqb q 11) (pick (eqb h 0) (Some (edge_number v)) None) None)
 
 -- DIF channels are 0 to 3, slots V0 to V134
-unfoldable pub within : (ℕ → ℕ → ℕ → Carried) → Slot → Carried
-within f s = pick (ltb s.channel 4) (pick (ltb s.video.0 135) (f s.channel s.sequence s.video.0) Nothing) Nothing
+unfoldable pub within : (ℕ → ℕ → ℕ → Option ℕ) → Slot → Option ℕ
+within f s = pick (ltb s.channel 4) (pick (ltb s.video.0 135) (f s.channel s.sequence s.video.0) None) None
 
 -- by the system, and what a slot of it carries
-abbrev pub carries_of : System → ℕ → ℕ → ℕ → Carried
+abbrev pub carries_of : System → ℕ → ℕ → ℕ → Option ℕ
 carries_of I60 = ten_carries
 carries_of I50 = eleven_carries
 carries_of P60 = ten_carries
 carries_of P50 = ten_carries
 
-abbrev pub carried_in : System → Slot → Carried
+abbrev pub carried_in : System → Slot → Option ℕ
 carried_in y = within (carries_of y)
 
 -- ---- back: the slot of a macroblock
@@ -98,20 +94,20 @@ eleven_slot b = slot_at (b / 1485) (eleven_turn b (unit_at (b / 27 % 5))) (unit_
 abbrev pub edge_slot : ℕ → Slot
 edge_slot e = slot 0 11 (5 * (e % 27) + e / 27)
 
-unfoldable pub ten_found : ℕ → Carrier
-ten_found b = pick (ltb b 5400) (In (ten_slot b)) NoSlot
+unfoldable pub ten_found : ℕ → Option Slot
+ten_found b = pick (ltb b 5400) (Some (ten_slot b)) None
 
-unfoldable pub eleven_found : ℕ → Carrier
-eleven_found b = pick (ltb b 5940) (In (eleven_slot b)) (pick (ltb b 6075) (In (edge_slot (b - 5940))) NoSlot)
+unfoldable pub eleven_found : ℕ → Option Slot
+eleven_found b = pick (ltb b 5940) (Some (eleven_slot b)) (pick (ltb b 6075) (Some (edge_slot (b - 5940))) None)
 
 -- the slot of macroblock b
-abbrev pub carrier_of : System → ℕ → Carrier
+abbrev pub carrier_of : System → ℕ → Option Slot
 carrier_of I60 = ten_found
 carrier_of I50 = eleven_found
 carrier_of P60 = ten_found
 carrier_of P50 = ten_found
 
 -- what is carried where a macroblock lies
-abbrev pub carried_by : (Slot → Carried) → Carrier → Carried
-carried_by f (In s) = f s
-carried_by f NoSlot = Nothing
+abbrev pub carried_by : (Slot → Option ℕ) → Option Slot → Option ℕ
+carried_by f (Some s) = f s
+carried_by f None = None

@@ -1,10 +1,8 @@
 -- The rows that the Recommendation prints of its tables 22 to 24, as one table under one test.
-use Rattle.std.specs.Prelude.{Bool, true, false, ◌&&◌, List, [], ◌∷◌, ◌++◌, ℕ, ◌+◌, ◌*◌, eqb}
+use Rattle.std.specs.Prelude.{Bool, true, false, ◌&&◌, List, [], ◌∷◌, ◌++◌, ℕ, ◌+◌, ◌*◌, eqb, Option, Some, None}
 use Rattle.base.specs.Pick.{pick}
 use Rattle.paper.specs.declared.System.{System}
 use Rattle.paper.specs.declared.System.TheVariants.{I60, I50, P60, P50}
-use Rattle.paper.specs.declared.Carried.{Carried}
-use Rattle.paper.specs.declared.Carried.TheVariants.{Macroblock, Nothing}
 use Rattle.rules_picture.specs.Picture.{slot, carried_in}
 
 -- the last column: compressed macroblock CM h,i,j,k, or a dash
@@ -24,11 +22,11 @@ numbered P60 h i j k = ((10 * h + i) * 5 + j) * 27 + k
 numbered P50 h i j k = ((10 * h + i) * 5 + j) * 27 + k
 
 -- the same is printed and carried
-unfoldable pub meets : System → Compressed → Carried → Bool
-meets y (CM h i j k) (Macroblock b) = eqb b (numbered y h i j k)
-meets y (CM h i j k) Nothing = false
-meets y none (Macroblock b) = false
-meets y none Nothing = true
+unfoldable pub meets : System → Compressed → Option ℕ → Bool
+meets y (CM h i j k) (Some b) = eqb b (numbered y h i j k)
+meets y (CM h i j k) None = false
+meets y none (Some b) = false
+meets y none None = true
 
 unfoldable pub rows_agree : List Row → Bool
 rows_agree [] = true

@@ -1,4 +1,5 @@
 -- The workshop of the first demand, of these calls: each has one outcome, the number that its table gives, and a refusal that writes nothing. Assumes nothing.
+use Rattle.std.specs.Prelude.{Option, Some, None}
 use mathlib.Core.Path.{◌≡◌, refl, sym, ap, ◌∙◌}
 use mathlib.Core.List.{List, [], ◌∷◌}
 use Prim.Native.Nat.{ℕ}
@@ -9,8 +10,6 @@ use borrow.Author.Tests.{eq-eqb}
 use Rattle.base.proofs.Cases.{by_eq}
 use Rattle.base.proofs.Picks.{pick_true}
 use Rattle.paper.specs.declared.System.{System}
-use Rattle.paper.specs.declared.SystemNumber.{SystemNumber}
-use Rattle.paper.specs.declared.SystemNumber.TheVariants.{Known, NoSystem}
 use Rattle.paper.specs.declared.AudioAnswer.{AudioAnswer}
 use Rattle.paper.specs.declared.TimeAnswer.{TimeAnswer}
 use Rattle.rules_format.specs.Systems.{in_system, system_of}
@@ -46,10 +45,10 @@ module _ (k : ℕ) (frame : List ℕ) (c : ℕ) (samples : List ℤ) {r : AudioA
 -- ---- read_time
 
 module _ (k : ℕ) (frame : List ℕ) where
-  found_number : time_number k frame ≡ 0 → (s : SystemNumber) → system_of k ≡ s → (in_system (time_refused 1) (λ (y : System). time_found y frame) s).number ≡ 0
+  found_number : time_number k frame ≡ 0 → (s : Option System) → system_of k ≡ s → (in_system (time_refused 1) (λ (y : System). time_found y frame) s).number ≡ 0
   unfolding time_found
-  found_number z (Known y) e = refl
-  found_number z NoSystem e = absurd (omega (arith, z, time_1 k frame e))
+  found_number z (Some y) e = refl
+  found_number z None e = absurd (omega (arith, z, time_1 k frame e))
 
   pub time_number_lem : {r : TimeAnswer} → TimeRead k frame r → r.number ≡ time_number k frame
   unfolding time_answer

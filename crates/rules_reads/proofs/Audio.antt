@@ -1,5 +1,6 @@
 -- The call `read_audio`: one answer and one content of the list for every input, each refusal exactly when its row says, a refusal
 -- writes nothing, what is in order is heard. Assumes nothing.
+use Rattle.std.specs.Prelude.{Some, None}
 use mathlib.Core.Path.{◌≡◌, refl, sym, ap, ◌∙◌}
 use mathlib.Core.Bool.{true, false}
 use mathlib.Core.List.{List, ◌++◌}
@@ -18,7 +19,6 @@ use Rattle.base.proofs.Cases.{by_bool, by_eq}
 use Rattle.base.proofs.Picks.{pick_true, pick_false, first_zero, first_stops}
 use Rattle.base.proofs.Runs.{length_tab, tab_at}
 use Rattle.paper.specs.declared.System.{System}
-use Rattle.paper.specs.declared.SystemNumber.TheVariants.{Known, NoSystem}
 use Rattle.paper.specs.declared.Sample.TheVariants.{Lost}
 use Rattle.paper.specs.declared.AudioAnswer.{AudioAnswer}
 use Rattle.rules_format.specs.Systems.{sequences_of, half_of, positions_of, is_count, system_of}
@@ -103,11 +103,11 @@ module _ (y : System) (frame : List ℕ) (c t : ℕ) where
 -- ---- audioNumber
 
 module _ (k : ℕ) (frame : List ℕ) (c size : ℕ) where
-  pub audio_1 : system_of k ≡ NoSystem → 1 ≡ audio_number k frame c size
+  pub audio_1 : system_of k ≡ None → 1 ≡ audio_number k frame c size
   unfolding audio_number first_of pick
   audio_1 e = rw e refl
 
-  module _ (y : System) (known : system_of k ≡ Known y) where
+  module _ (y : System) (known : system_of k ≡ Some y) where
     pub audio_2 : eqb (length frame) (48000 * sequences_of y) ≡ false → 2 ≡ audio_number k frame c size
     unfolding audio_number first_of pick
     audio_2 e = rw (known, e) refl
@@ -175,7 +175,7 @@ module _ (k : ℕ) (frame : List ℕ) (c : ℕ) (list : List ℤ) where
     left = sym (pick_false _ _ (ne_eqb _ 0 (λ z. d (e ∙ z))));
   }
 
-  module _ (y : System) (known : system_of k ≡ Known y) (zero : audio_number k frame c (length list) ≡ 0) where
+  module _ (y : System) (known : system_of k ≡ Some y) (zero : audio_number k frame c (length list) ≡ 0) where
     pub audio_taken : {r : AudioAnswer} {list' : List ℤ} → AudioRead k frame c list r list'
         → (r ≡ record { number = 0; count = count_for y frame c })
         × (list' ≡ tab (λ (t : ℕ). number_of (heard_sample y frame c t)) (count_for y frame c) ++ drop (count_for y frame c) list)

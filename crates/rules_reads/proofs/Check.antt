@@ -1,4 +1,5 @@
 -- The frame check: conditions on sequences, the first fault, the rows of refusals and the call. Assumes nothing.
+use Rattle.std.specs.Prelude.{Some, None}
 use mathlib.Core.Path.{◌≡◌, refl, sym, ap, ◌∙◌}
 use mathlib.Core.Bool.{Bool, true, false, not}
 use mathlib.Core.List.{List, [], ◌∷◌, ◌++◌}
@@ -15,7 +16,6 @@ use Rattle.base.proofs.Below.{below_means, below_when, below_fails, below_some}
 use Rattle.base.proofs.Cases.{by_bool, by_eq}
 use Rattle.base.proofs.Picks.{pick_true, pick_false}
 use Rattle.paper.specs.declared.System.{System}
-use Rattle.paper.specs.declared.SystemNumber.TheVariants.{Known, NoSystem}
 use Rattle.paper.specs.declared.Section.{Section}
 use Rattle.paper.specs.declared.Section.TheVariants.{Header}
 use Rattle.paper.specs.declared.Fault.{Fault}
@@ -223,11 +223,11 @@ pub check_frame_one : (k : ℕ) (frame : List ℕ) → ExactlyOne ℕ (Checked k
 check_frame_one k frame = record { outcome = check_number k frame; meets = record { answer = refl }; only = λ o m. m.answer }
 
 module _ (k : ℕ) (frame : List ℕ) where
-  pub check_1 : system_of k ≡ NoSystem → 1 ≡ check_number k frame
+  pub check_1 : system_of k ≡ None → 1 ≡ check_number k frame
   unfolding check_number first_of pick
   check_1 e = rw e refl
 
-  module _ (y : System) (known : system_of k ≡ Known y) where
+  module _ (y : System) (known : system_of k ≡ Some y) where
     pub check_2 : eqb (length frame) (48000 * sequences_of y) ≡ false → 2 ≡ check_number k frame
     unfolding check_number first_of pick
     check_2 e = rw (known, e) refl

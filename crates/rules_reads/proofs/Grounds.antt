@@ -1,4 +1,5 @@
 -- What each refusal number is given for, in document 01's bytes, holds exactly where the test of the definitions does. Assumes nothing.
+use Rattle.std.specs.Prelude.{Some}
 use mathlib.Core.Path.{◌≡◌, refl, sym, ap, ◌∙◌, subst}
 use mathlib.Core.Bool.{Bool, true, false, not}
 use mathlib.Core.List.{List, ◌∷◌}
@@ -14,9 +15,8 @@ use Rattle.base.proofs.Cases.{by_bool, by_eq}
 use Rattle.base.proofs.Picks.{neither}
 use Rattle.paper.specs.declared.System.{System}
 use Rattle.paper.specs.Bytes.{WrongVs}
-use Rattle.promises.specs.Refusals.{VsDisagrees, Table, ◌if◌, ◌else◌, FirstFault, Some, WrongDsf, Flagged, vs_byte}
+use Rattle.promises.specs.Refusals.{VsDisagrees, Table, ◌if◌, ◌else◌, FirstFault, SomeInFrame, WrongDsf, Flagged, vs_byte}
 use Rattle.rules_packs.proofs.Judged.{vs_same, vs_wrong, vs_right}
-use Rattle.paper.specs.declared.SystemNumber.TheVariants.{Known}
 use Rattle.paper.specs.declared.Pack.{Pack}
 use Rattle.rules_format.specs.Systems.{sequences_of, system_of}
 use Rattle.rules_format.specs.Blocks.{sequence_at, block_in}
@@ -33,7 +33,7 @@ use Rattle.rules_surveys.proofs.FaultLists.{faults_stream}
 use Rattle.rules_reads.proofs.Check.{every_means, every_some, unnamed_none, fault_first, fault_none}
 
 -- a frame of system k
-module _ (k : ℕ) (y : System) (known : system_of k ≡ Known y) (f : List ℕ) where
+module _ (k : ℕ) (y : System) (known : system_of k ≡ Some y) (f : List ℕ) where
   cols : Columns k y
   cols = columns k y known
 
@@ -94,7 +94,7 @@ module _ (k : ℕ) (y : System) (known : system_of k ≡ Known y) (f : List ℕ)
       → ((h q : ℕ) → test q (sequence_at y f h q) ≡ false → Is h q)
       → ((h q : ℕ) → test q (sequence_at y f h q) ≡ true → Is h q → ⊥)
       → (every_sequence y f test ≡ true → Exactly table (first_of rows))
-      → Exactly (number if Some (sequences k) Is else table) (first_of (number when not (every_sequence y f test) ∷ rows))
+      → Exactly (number if SomeInFrame (sequences k) Is else table) (first_of (number when not (every_sequence y f test) ∷ rows))
   every_exactly number Is test table rows wrong right rest =
       row_exactly number (not (every_sequence y f test)) table rows
       (λ e.

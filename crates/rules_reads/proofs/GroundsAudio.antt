@@ -1,4 +1,5 @@
 -- What 24 and 25 are given for, in document 01's bytes. Assumes nothing.
+use Rattle.std.specs.Prelude.{Some}
 use mathlib.Core.Path.{◌≡◌, sym, ap, ◌∙◌, subst}
 use mathlib.Core.Bool.{Bool, true, false, not, ◌&&◌}
 use mathlib.Core.List.{List, ◌∷◌}
@@ -16,7 +17,6 @@ use Rattle.paper.specs.declared.System.{System}
 use Rattle.rules_packs.specs.Aaux.{as_ok, as_at, count_in, mode_in}
 use Rattle.promises.specs.Refusals.{AsBreaks, Table, ◌if◌, ◌else◌, SomeInHalf, as_byte, DifferInHalf, AsDiffer}
 use Rattle.rules_packs.proofs.Judged.{as_same, as_wrong, as_right, count_by_lem}
-use Rattle.paper.specs.declared.SystemNumber.TheVariants.{Known}
 use Rattle.paper.specs.declared.Pack.{Pack}
 use Rattle.rules_format.specs.Systems.{half_of, system_of}
 use Rattle.rules_format.specs.Blocks.{sequence_at, block_in}
@@ -31,7 +31,7 @@ use Rattle.rules_reads.proofs.Check.{from_means, from_some}
 use Rattle.promises.proofs.Tables.{Exactly, row_exactly}
 use Rattle.rules_reads.proofs.Grounds.{byte_here}
 
-module _ (k : ℕ) (y : System) (known : system_of k ≡ Known y) (f : List ℕ) (c : ℕ) where
+module _ (k : ℕ) (y : System) (known : system_of k ≡ Some y) (f : List ℕ) (c : ℕ) where
   cols : Columns k y
   cols = columns k y known
 

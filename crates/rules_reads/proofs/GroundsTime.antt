@@ -1,4 +1,5 @@
 -- What 26 and 27 are given for, in document 01's bytes. Assumes nothing.
+use Rattle.std.specs.Prelude.{Some}
 use mathlib.Core.Path.{◌≡◌, refl, sym, ap, ◌∙◌}
 use mathlib.Core.Bool.{true, false, not, ◌&&◌}
 use mathlib.Core.List.{List, ◌∷◌}
@@ -17,7 +18,6 @@ use Rattle.base.proofs.Picks.{both_held, both_hold}
 use Rattle.paper.specs.declared.System.{System}
 use Rattle.rules_packs.proofs.Judged.{time_wrong, time_right}
 use Rattle.rules_packs.proofs.Written.{is_time_lem, is_group_lem, holds_time_lem, holds_group_lem}
-use Rattle.paper.specs.declared.SystemNumber.TheVariants.{Known}
 use Rattle.paper.specs.declared.Pack.{Pack}
 use Rattle.paper.specs.declared.SubcodePack.{SubcodePack}
 use Rattle.paper.specs.declared.SubcodePack.TheVariants.{TimeCode, BinaryGroup, NoPack}
@@ -28,7 +28,7 @@ use Rattle.rules_packs.specs.Subcode.{is_first, kind_of}
 use Rattle.rules_reads.specs.Check.{every_sequence}
 use Rattle.rules_reads.specs.Time.{ssyb_in, time_first, group_first, with_bit6, settled, same_pack, pack_agrees, subcode_agrees}
 use Rattle.paper.specs.Paper.{sequences}
-use Rattle.promises.specs.Refusals.{Table, ◌if◌, ◌else◌, Some, ssyb_at, WrongFirst, Differs}
+use Rattle.promises.specs.Refusals.{Table, ◌if◌, ◌else◌, SomeInFrame, ssyb_at, WrongFirst, Differs}
 use Rattle.paper.specs.Bytes.{compared}
 use Rattle.promises.specs.Refusals.WrongFirst.{wrong_time_header, wrong_digit, wrong_group_header}
 use Rattle.promises.specs.Refusals.Differs.{other_time, other_group}
@@ -58,7 +58,7 @@ same_not p o e d0 d1 d2 d3 d4 =
     d4) d3) d2) d1) d0
 
 -- a frame of system k
-module _ (k : ℕ) (y : System) (known : system_of k ≡ Known y) (f : List ℕ) where
+module _ (k : ℕ) (y : System) (known : system_of k ≡ Some y) (f : List ℕ) where
   -- the pack of SSYB j of a sequence, by the frame's bytes
   abbrev pack_at : ℕ → ℕ → ℕ → Pack
   pack_at h q j = record {
@@ -213,5 +213,5 @@ module _ (k : ℕ) (y : System) (known : system_of k ≡ Known y) (f : List ℕ)
 
   pub row_27 : (table : Table) (rows : List Refusal)
       → (every_sequence y f (subcode_agrees y (time_first y f) (group_first y f)) ≡ true → Exactly table (first_of rows))
-      → Exactly (27 if Some (sequences k) (Differs k f) else table) (first_of (27 when not (every_sequence y f (subcode_agrees y (time_first y f) (group_first y f))) ∷ rows))
+      → Exactly (27 if SomeInFrame (sequences k) (Differs k f) else table) (first_of (27 when not (every_sequence y f (subcode_agrees y (time_first y f) (group_first y f))) ∷ rows))
   row_27 table rows rest = every_exactly k y known f 27 (Differs k f) (subcode_agrees y (time_first y f) (group_first y f)) table rows differs agrees rest

@@ -1,5 +1,6 @@
 -- The calls `macroblock_number` and `macroblock`: one answer for every input, each refusal exactly when its row says, the part empty
 -- exactly when the number is a refusal. Assumes nothing.
+use Rattle.std.specs.Prelude.{Option, Some, None}
 use mathlib.Core.Path.{◌≡◌, refl, sym, ap, ◌∙◌}
 use mathlib.Core.Bool.{true, false}
 use mathlib.Core.List.{List, [], ◌++◌}
@@ -14,13 +15,9 @@ use Rattle.base.proofs.Cases.{by_bool, by_eq}
 use Rattle.base.proofs.Parts.{drop_part}
 use Rattle.base.proofs.Picks.{pick_true, pick_false, first_stops}
 use Rattle.paper.specs.declared.System.{System}
-use Rattle.paper.specs.declared.SystemNumber.{SystemNumber}
-use Rattle.paper.specs.declared.SystemNumber.TheVariants.{Known, NoSystem}
 use Rattle.paper.specs.declared.Part.{Part}
 use Rattle.paper.specs.declared.Section.TheVariants.{Video}
 use Rattle.paper.specs.declared.Slot.{Slot}
-use Rattle.paper.specs.declared.Carried.TheVariants.{Macroblock}
-use Rattle.paper.specs.declared.Carrier.TheVariants.{In}
 use Rattle.rules_format.specs.Systems.{sequences_of, macroblocks_of, in_system, system_of}
 use Rattle.rules_format.specs.Places.{place_in}
 use Rattle.rules_format.specs.Blocks.{start_of, block_at, no_part, bytes_of}
@@ -47,11 +44,11 @@ module _ (y : System) (frame : List ℕ) where
 -- ---- macroblockNumber: each number exactly when its row is the first that holds
 
 module _ (k : ℕ) (frame : List ℕ) (b : ℕ) where
-  pub macroblock_1 : system_of k ≡ NoSystem → 1 ≡ macroblock_number k frame b
+  pub macroblock_1 : system_of k ≡ None → 1 ≡ macroblock_number k frame b
   unfolding macroblock_number first_of pick
   macroblock_1 e = rw e refl
 
-  module _ (y : System) (known : system_of k ≡ Known y) where
+  module _ (y : System) (known : system_of k ≡ Some y) where
     pub macroblock_2 : eqb (length frame) (48000 * sequences_of y) ≡ false → 2 ≡ macroblock_number k frame b
     unfolding macroblock_number first_of pick
     macroblock_2 e = rw (known, e) refl
@@ -101,14 +98,14 @@ module _ (k : ℕ) (frame : List ℕ) (b : ℕ) where
   unfolding macroblock_part
   macroblock_refused d = pick_false _ _ (ne_eqb _ 0 d)
 
-  module _ (y : System) (known : system_of k ≡ Known y) (zero : macroblock_number k frame b ≡ 0) where
+  module _ (y : System) (known : system_of k ≡ Some y) (zero : macroblock_number k frame b ≡ 0) where
     -- else the bytes behind the ID of the block that carries it
-    pub macroblock_taken : (s : Slot) → carrier_of y b ≡ In s → macroblock_part k frame b ≡ slot_bytes y frame s
+    pub macroblock_taken : (s : Slot) → carrier_of y b ≡ Some s → macroblock_part k frame b ≡ slot_bytes y frame s
     unfolding macroblock_part carrier_bytes
     macroblock_taken s e = pick_true _ _ (eq-eqb _ 0 zero) ∙ rw (known, e) refl
 
     -- which is the one slot that carries it
-    pub macroblock_carried : (s : Slot) → carried_in y s ≡ Macroblock b → macroblock_part k frame b ≡ slot_bytes y frame s
+    pub macroblock_carried : (s : Slot) → carried_in y s ≡ Some b → macroblock_part k frame b ≡ slot_bytes y frame s
     macroblock_carried s e = macroblock_taken s (carried_lies y s b e).1
 
     -- and those bytes are 77
@@ -131,19 +128,19 @@ slot_start_bytes y frame s = sym (drop_part (start_of y s.channel s.sequence (pl
 
 module _ (k : ℕ) (frame : List ℕ) (b : ℕ) where
   module _ (zero : macroblock_number k frame b ≡ 0) where
-    start_bytes : (s : SystemNumber) → system_of k ≡ s → take 77 (drop (macroblock_start s b) frame) ≡ in_system [] (λ (y : System). carrier_bytes y frame (carrier_of y b)) s
+    start_bytes : (s : Option System) → system_of k ≡ s → take 77 (drop (macroblock_start s b) frame) ≡ in_system [] (λ (y : System). carrier_bytes y frame (carrier_of y b)) s
     unfolding carrier_start carrier_bytes
-    start_bytes NoSystem e = absurd (omega (arith, zero, macroblock_1 k frame b e))
-    start_bytes (Known y) e =
+    start_bytes None e = absurd (omega (arith, zero, macroblock_1 k frame b e))
+    start_bytes (Some y) e =
         let z = macroblock_zero k frame b y e zero in
         let one = carrier_one y b z.1 in
         let lies = (carried_lies y one.outcome b one.meets).1 in
         rw lies (slot_start_bytes y frame one.outcome)
 
-    start_fits : (s : SystemNumber) → system_of k ≡ s → macroblock_start s b + 77 ≤ length frame
+    start_fits : (s : Option System) → system_of k ≡ s → macroblock_start s b + 77 ≤ length frame
     unfolding carrier_start slot_start
-    start_fits NoSystem e = absurd (omega (arith, zero, macroblock_1 k frame b e))
-    start_fits (Known y) e =
+    start_fits None e = absurd (omega (arith, zero, macroblock_1 k frame b e))
+    start_fits (Some y) e =
         let z = macroblock_zero k frame b y e zero in
         let one = carrier_one y b z.1 in
         let s = one.outcome in
@@ -166,7 +163,7 @@ module _ (k : ℕ) (frame : List ℕ) (b : ℕ) where
   unfolding macroblock_at
   macroblock_lies_stopped n en d r e = macroblock_lies r (e ∙ ap no_part en ∙ sym (part_refused _ (macroblock_start (system_of k) b) 77 (λ z. d (en ∙ z))))
 
-  pub macroblock_lies_found : (y : System) → system_of k ≡ Known y → macroblock_number k frame b ≡ 0 → (s : Slot) → carrier_of y b ≡ In s
+  pub macroblock_lies_found : (y : System) → system_of k ≡ Some y → macroblock_number k frame b ≡ 0 → (s : Slot) → carrier_of y b ≡ Some s
       → MacroblockLies k frame b (record { number = 0; start = slot_start y s; length = 77 })
   unfolding macroblock_at carrier_start
   macroblock_lies_found y known z s e = macroblock_lies _ (sym (part_taken _ (macroblock_start (system_of k) b) 77 z ∙ rw (known, e) refl))

@@ -1,4 +1,5 @@
 -- The workshop of the second demand, of the strict reads: what is read of any frame, in document 01's numbers and bytes. Assumes nothing.
+use Rattle.std.specs.Prelude.{Some}
 use mathlib.Core.Path.{◌≡◌, refl, sym, ap, ap₂, ◌∙◌}
 use mathlib.Core.List.{List, ◌∷◌}
 use mathlib.Core.Logic.{◌≢◌}
@@ -14,11 +15,9 @@ use Rattle.base.specs.Run.{run, tab}
 use Rattle.base.proofs.Cases.{by_eq}
 use Rattle.base.proofs.Runs.{length_tab, tab_part}
 use Rattle.paper.specs.declared.System.{System}
-use Rattle.paper.specs.declared.SystemNumber.TheVariants.{Known}
 use Rattle.paper.specs.declared.Part.{Part}
 use Rattle.paper.specs.declared.AudioAnswer.{AudioAnswer}
 use Rattle.paper.specs.declared.TimeAnswer.{TimeAnswer}
-use Rattle.paper.specs.declared.Carried.TheVariants.{Macroblock}
 use Rattle.rules_format.specs.Systems.{sequences_of, rate_of, system_of}
 use Rattle.rules_format.specs.Blocks.{block_at, sequence_at, block_in}
 use Rattle.rules_format.specs.Samples.{number_of}
@@ -49,7 +48,7 @@ use Rattle.rules_reads.specs.Check.{Checked}
 
 module _ {k : ℕ} {f : List ℕ} {c : ℕ} {samples samples' : List ℤ} {r : AudioAnswer} (read : AudioRead k f c samples r samples') where
   -- where it goes through
-  module _ (y : System) (known : system_of k ≡ Known y) (z : audio_number k f c (length samples) ≡ 0) where
+  module _ (y : System) (known : system_of k ≡ Some y) (z : audio_number k f c (length samples) ≡ 0) where
     count_is : r.count ≡ count_for y f c
     count_is = ap (λ (a : AudioAnswer). a.count) (audio_taken k f c samples y known z read).0
 
@@ -86,7 +85,7 @@ module _ {k : ℕ} {f : List ℕ} {c : ℕ} {samples samples' : List ℤ} {r : A
         )
 
   -- a number of 0 says a known system
-  by_audio : {P : Type 0} → audio_number k f c (length samples) ≡ 0 → ((y : System) → system_of k ≡ Known y → P) → P
+  by_audio : {P : Type 0} → audio_number k f c (length samples) ≡ 0 → ((y : System) → system_of k ≡ Some y → P) → P
   by_audio z = by_system k (λ none. absurd (omega (arith, z, audio_1 k f c (length samples) none)))
 
   length_out : length samples' ≡ length samples
@@ -98,9 +97,9 @@ module _ {k : ℕ} {f : List ℕ} {c : ℕ} {samples samples' : List ℤ} {r : A
 -- ---- macroblock, macroblock_at
 
 module _ (k : ℕ) (f : List ℕ) (b : ℕ) (z : macroblock_number k f b ≡ 0) (h q g m : ℕ) (hh : h < 4) (hq : q < sequences k) (hg : g < 27) (hm : m < 5)
-    (carries : carried k h q g m ≡ Macroblock b) where
+    (carries : carried k h q g m ≡ Some b) where
   -- the slot of the definitions
-  by_slot : {P : Type 0} → ((y : System) → system_of k ≡ Known y → carried_in y (slot h q (5 * g + m)) ≡ Macroblock b → P) → P
+  by_slot : {P : Type 0} → ((y : System) → system_of k ≡ Some y → carried_in y (slot h q (5 * g + m)) ≡ Some b → P) → P
   by_slot there =
       by_system k
       (λ none. absurd (omega (arith, z, macroblock_1 k f b none)))
@@ -147,7 +146,7 @@ module _ (y : System) (f : List ℕ) (whole : length f ≡ 48000 * sequences_of 
   group_out = rw first_block (tab_part 0 (block_at y f 0 0 1) 39 4 (omega (arith, first_long))) ∙ bytes_at_lem y f 0 0 1 39 4 (omega arith)
 
 module _ {k : ℕ} {f : List ℕ} {r : TimeAnswer} (read : TimeRead k f r) (z : time_number k f ≡ 0) where
-  by_time : {P : Type 0} → ((y : System) → system_of k ≡ Known y → P) → P
+  by_time : {P : Type 0} → ((y : System) → system_of k ≡ Some y → P) → P
   by_time = by_system k (λ none. absurd (omega (arith, z, time_1 k f none)))
 
   answer_out : (r.time ≡ first_answered k (byte_at (sequences k) f 0 0 1 31) ∷ bytes_at (sequences k) f 0 0 1 32 3) × (r.group ≡ bytes_at (sequences k) f 0 0 1 39 4)

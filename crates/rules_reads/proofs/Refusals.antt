@@ -1,4 +1,5 @@
 -- Each call's refusal table, in document 01's numbers and bytes, gives exactly the number that the call's contract has. Assumes nothing.
+use Rattle.std.specs.Prelude.{Some}
 use mathlib.Core.Path.{◌≡◌, subst}
 use mathlib.Core.Bool.{true, false, not}
 use mathlib.Core.List.{List, [], ◌∷◌, ◌++◌, append-nil}
@@ -12,14 +13,13 @@ use Rattle.base.specs.Calls.{Refusal, first_of, ◌when◌}
 use Rattle.base.proofs.Cases.{by_lt, clash}
 use Rattle.base.proofs.Picks.{both_held, both_hold}
 use Rattle.paper.specs.declared.System.{System}
-use Rattle.paper.specs.declared.SystemNumber.TheVariants.{Known}
 use Rattle.rules_format.specs.Systems.{sequences_of, positions_of, macroblocks_of, system_of, positions_in, passes, rows_in, frame_bytes}
 use Rattle.rules_reads.specs.Check.{every_sequence, dsf_agrees, vs_agrees, unflagged, fault_in, check_rows, check_number}
 use Rattle.rules_reads.specs.Audio.{is_audio, audio_rows, audio_number}
 use Rattle.rules_reads.specs.Macroblock.{picture_rows, macroblock_number}
 use Rattle.rules_reads.specs.Time.{time_rows, time_number}
 use Rattle.paper.specs.Paper.{sequences, positions}
-use Rattle.promises.specs.Refusals.{Table, ◌if◌, ◌else◌, none, FirstFault, Some, WrongDsf, Flagged, checked, sounded, check_table, audio_table, macroblock_table}
+use Rattle.promises.specs.Refusals.{Table, ◌if◌, ◌else◌, none, FirstFault, SomeInFrame, WrongDsf, Flagged, checked, sounded, check_table, audio_table, macroblock_table}
 use Rattle.promises.specs.Refusals.{time_table, VsDisagrees}
 use Rattle.rules_format.proofs.Paper.{columns}
 use Rattle.promises.proofs.Tables.{Exactly, exactly_none, row_exactly, row_differs, row_fault, row_system, row_length}
@@ -29,7 +29,7 @@ use Rattle.rules_reads.proofs.GroundsTime.{row_26, row_27}
 
 -- ---- the rows of every strict read
 
-pub checked_exactly : (k : ℕ) (y : System) → system_of k ≡ Known y → (f : List ℕ) → length f ≡ 48000 * sequences_of y → (table : Table) (rows : List Refusal)
+pub checked_exactly : (k : ℕ) (y : System) → system_of k ≡ Some y → (f : List ℕ) → length f ≡ 48000 * sequences_of y → (table : Table) (rows : List Refusal)
     → Exactly table (first_of rows) → Exactly (checked k f table) (first_of (check_rows y f ++ rows))
 unfolding check_rows
 checked_exactly k y known f whole table rows rest =
@@ -38,8 +38,8 @@ checked_exactly k y known f whole table rows rest =
     every_exactly k y known f 22 (VsDisagrees k f) (vs_agrees y) table rows (vs_disagrees k y known f) (vs_agreed k y known f) (λ vs. rest)))
 
 -- 23
-row_23 : (k : ℕ) (y : System) → system_of k ≡ Known y → (f : List ℕ) (i : ℕ) → i < 4 → (table : Table) (rows : List Refusal) → Exactly table (first_of rows)
-    → Exactly (23 if Some (sequences k) (Flagged (4 + i) (sequences k) f) else table) (first_of (23 when not (every_sequence y f (unflagged i)) ∷ rows))
+row_23 : (k : ℕ) (y : System) → system_of k ≡ Some y → (f : List ℕ) (i : ℕ) → i < 4 → (table : Table) (rows : List Refusal) → Exactly table (first_of rows)
+    → Exactly (23 if SomeInFrame (sequences k) (Flagged (4 + i) (sequences k) f) else table) (first_of (23 when not (every_sequence y f (unflagged i)) ∷ rows))
 row_23 k y known f i hi table rows rest =
     every_exactly k y known f 23 (Flagged (4 + i) (sequences k) f) (unflagged i) table rows
     (λ h q. flag_wrong k y known f i h q hi) (λ h q. flag_right k y known f i h q hi) (λ e. rest)
@@ -73,7 +73,7 @@ pub row_audio : (c : ℕ) (table : Table) (rows : List Refusal) → Exactly tabl
 row_audio c table rows rest = row_exactly 3 (not (is_audio c)) table rows (audio_means c) (audio_not c) (λ channel. rest)
 
 -- 23 to 25
-pub sounded_exactly : (k : ℕ) (y : System) → system_of k ≡ Known y → (f : List ℕ) (c : ℕ) (table : Table) (rows : List Refusal) → Exactly table (first_of rows)
+pub sounded_exactly : (k : ℕ) (y : System) → system_of k ≡ Some y → (f : List ℕ) (c : ℕ) (table : Table) (rows : List Refusal) → Exactly table (first_of rows)
     → Exactly (sounded k f c table) (first_of (audio_rows y f c ++ rows))
 unfolding audio_rows
 sounded_exactly k y known f c table rows rest =

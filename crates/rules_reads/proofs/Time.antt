@@ -1,4 +1,5 @@
 -- The call `read_time`: one answer for every input, each refusal exactly when its row says; bit 6 of PC1 at 50 Hz. Assumes nothing.
+use Rattle.std.specs.Prelude.{Some, None}
 use mathlib.Core.Path.{◌≡◌, refl, sym, ◌∙◌}
 use mathlib.Core.Bool.{true, false, ◌&&◌}
 use mathlib.Core.List.{List, ◌++◌}
@@ -13,7 +14,6 @@ use Rattle.base.proofs.Below.{below_means, below_when}
 use Rattle.base.proofs.Cases.{by_bool, by_eq}
 use Rattle.base.proofs.Picks.{pick_true, pick_false, first_stops, both_held}
 use Rattle.paper.specs.declared.System.{System}
-use Rattle.paper.specs.declared.SystemNumber.TheVariants.{Known, NoSystem}
 use Rattle.paper.specs.declared.Pack.{Pack}
 use Rattle.paper.specs.declared.SubcodePack.TheVariants.{TimeCode, BinaryGroup}
 use Rattle.paper.specs.declared.TimeAnswer.{TimeAnswer}
@@ -106,11 +106,11 @@ module _ (y : System) (frame : List ℕ) where
 -- ---- timeNumber
 
 module _ (k : ℕ) (frame : List ℕ) where
-  pub time_1 : system_of k ≡ NoSystem → 1 ≡ time_number k frame
+  pub time_1 : system_of k ≡ None → 1 ≡ time_number k frame
   unfolding time_number first_of pick
   time_1 e = rw e refl
 
-  module _ (y : System) (known : system_of k ≡ Known y) where
+  module _ (y : System) (known : system_of k ≡ Some y) where
     pub time_2 : eqb (length frame) (48000 * sequences_of y) ≡ false → 2 ≡ time_number k frame
     unfolding time_number first_of pick
     time_2 e = rw (known, e) refl
@@ -153,7 +153,7 @@ module _ (k : ℕ) (frame : List ℕ) where
   unfolding time_answer
   time_stopped n r e d er = record { answer = er ∙ rw e refl ∙ sym (pick_false _ _ (ne_eqb _ 0 (λ z. d (e ∙ z)))) }
 
-  module _ (y : System) (known : system_of k ≡ Known y) (zero : time_number k frame ≡ 0) where
+  module _ (y : System) (known : system_of k ≡ Some y) (zero : time_number k frame ≡ 0) where
     pub time_taken : {r : TimeAnswer} → TimeRead k frame r
         → r ≡ record { number = 0; time = four_bytes (settled y (time_first y frame)); group = four_bytes (group_first y frame) }
     unfolding time_answer time_found

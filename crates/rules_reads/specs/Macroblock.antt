@@ -1,14 +1,11 @@
 -- The calls `macroblock_number`, `macroblock` and `macroblock_at`.
-use Rattle.std.specs.Prelude.{◌≡◌, not, List, [], ◌∷◌, ◌++◌, ℕ, ◌+◌, eqb, ltb, length, drop}
+use Rattle.std.specs.Prelude.{◌≡◌, not, List, [], ◌∷◌, ◌++◌, ℕ, ◌+◌, eqb, ltb, length, drop, Option, Some, None}
 use Rattle.base.specs.Calls.{Refusal, first_of, ◌when◌}
 use Rattle.base.specs.Pick.{pick}
 use Rattle.paper.specs.declared.System.{System}
-use Rattle.paper.specs.declared.SystemNumber.{SystemNumber}
 use Rattle.paper.specs.declared.Section.TheVariants.{Video}
 use Rattle.paper.specs.declared.Part.{Part}
 use Rattle.paper.specs.declared.Slot.{Slot}
-use Rattle.paper.specs.declared.Carrier.{Carrier}
-use Rattle.paper.specs.declared.Carrier.TheVariants.{In, NoSlot}
 use Rattle.rules_format.specs.Systems.{macroblocks_of, in_system, system_of, is_no_system, passes, rows_in, frame_bytes}
 use Rattle.rules_format.specs.Places.{place_in}
 use Rattle.rules_format.specs.Blocks.{start_of, block_at, part_at, bytes_of}
@@ -35,9 +32,9 @@ macroblock_number k frame b = first_of (
 unfoldable pub slot_bytes : System → List ℕ → Slot → List ℕ
 slot_bytes y frame s = drop 3 (block_at y frame s.channel s.sequence (place_in Video s.video.0))
 
-unfoldable pub carrier_bytes : System → List ℕ → Carrier → List ℕ
-carrier_bytes y frame (In s) = slot_bytes y frame s
-carrier_bytes y frame NoSlot = []
+unfoldable pub carrier_bytes : System → List ℕ → Option Slot → List ℕ
+carrier_bytes y frame (Some s) = slot_bytes y frame s
+carrier_bytes y frame None = []
 
 -- "the part empty exactly when the number is a refusal"
 unfoldable pub macroblock_part : ℕ → List ℕ → ℕ → List ℕ
@@ -47,11 +44,11 @@ macroblock_part k frame b = pick (eqb (macroblock_number k frame b) 0) (in_syste
 unfoldable pub slot_start : System → Slot → ℕ
 slot_start y s = start_of y s.channel s.sequence (place_in Video s.video.0) + 3
 
-unfoldable pub carrier_start : System → Carrier → ℕ
-carrier_start y (In s) = slot_start y s
-carrier_start y NoSlot = 0
+unfoldable pub carrier_start : System → Option Slot → ℕ
+carrier_start y (Some s) = slot_start y s
+carrier_start y None = 0
 
-abbrev pub macroblock_start : SystemNumber → ℕ → ℕ
+abbrev pub macroblock_start : Option System → ℕ → ℕ
 macroblock_start s b = in_system 0 (λ (y : System). carrier_start y (carrier_of y b)) s
 
 unfoldable pub macroblock_at : ℕ → List ℕ → ℕ → Part

@@ -1,10 +1,10 @@
 -- What an edit of this crate's definitions is refused by: what the promises ask of the call. Assumes nothing.
+use Rattle.std.specs.Prelude.{Some}
 use mathlib.Core.Path.{◌≡◌}
 use mathlib.Core.List.{List}
 use Prim.Native.Nat.{ℕ}
 use lib.IntN.{ℤ}
 use Rattle.paper.specs.declared.System.{System}
-use Rattle.paper.specs.declared.SystemNumber.TheVariants.{Known}
 use Rattle.rules_format.specs.Systems.{system_of}
 use Rattle.promises.specs.Demand1.{ReplaceAnswers}
 use Rattle.promises.specs.Commentary.{Exchanged}
@@ -24,6 +24,6 @@ pub exchanges : {k : ℕ} {f : List ℕ} {c : ℕ} {samples : List ℤ} {g : Lis
 exchanges = replaces
 
 -- what is taken, in clauses
-pub takes : (k : ℕ) (y : System) → system_of k ≡ Known y → (f : List ℕ) (c : ℕ) (samples : List ℤ)
+pub takes : (k : ℕ) (y : System) → system_of k ≡ Some y → (f : List ℕ) (c : ℕ) (samples : List ℤ)
     → (replace_number k f c samples ≡ 0 → Takes y f c samples) × (Takes y f c samples → replace_number k f c samples ≡ 0)
 takes k y known f c samples = (taken_takes k f c samples y known, takes_taken k f c samples y known)

@@ -1,4 +1,5 @@
 -- The refusal table of the call, in document 01's numbers and bytes, gives exactly the number that its contract has. Assumes nothing.
+use Rattle.std.specs.Prelude.{Some}
 use mathlib.Core.Path.{◌≡◌, sym, ◌∙◌}
 use mathlib.Core.List.{List, [], ◌∷◌, ◌++◌}
 use mathlib.Core.Bool.{not}
@@ -10,7 +11,6 @@ use borrow.Author.Tests.{eq-eqb, eqb-true}
 use Rattle.base.specs.Calls.{first_of, ◌when◌}
 use Rattle.base.proofs.Cases.{clash}
 use Rattle.paper.specs.declared.System.{System}
-use Rattle.paper.specs.declared.SystemNumber.TheVariants.{Known}
 use Rattle.rules_format.specs.Systems.{system_of, rows_in, frame_bytes}
 use Rattle.rules_reads.specs.Check.{check_rows}
 use Rattle.rules_reads.specs.Audio.{count_for, is_marked, is_audio, audio_rows}
@@ -22,7 +22,7 @@ use Rattle.rules_reads.proofs.Refusals.{checked_exactly, row_audio, sounded_exac
 
 -- ---- 29, 31, 33
 
-rows_exactly : (k : ℕ) (y : System) → system_of k ≡ Known y → (f : List ℕ) (c : ℕ) (samples : List ℤ)
+rows_exactly : (k : ℕ) (y : System) → system_of k ≡ Some y → (f : List ℕ) (c : ℕ) (samples : List ℤ)
     → Exactly (list_table (count_stored k f c) samples (mode_stored k f c)) (first_of (replace_rows y f c samples))
 unfolding replace_rows
 rows_exactly k y known f c samples =

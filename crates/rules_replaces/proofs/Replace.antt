@@ -1,4 +1,5 @@
 -- The call `replace_audio`: the replaced frame byte by byte, each refusal exactly when its row says, a refusal writes nothing. Assumes nothing.
+use Rattle.std.specs.Prelude.{Some, None}
 use mathlib.Core.Path.{◌≡◌, refl, sym, ap, ◌∙◌, subst}
 use mathlib.Core.Bool.{true, false}
 use mathlib.Core.List.{List, ◌++◌}
@@ -18,7 +19,6 @@ use Rattle.base.proofs.Cases.{by_bool, by_eq, by_lt}
 use Rattle.base.proofs.Picks.{pick_true, pick_false, both_held, first_zero, first_stops}
 use Rattle.base.proofs.Puts.{put_length, put_before, put_here, put_after, turns_keep, turns_do}
 use Rattle.paper.specs.declared.System.{System}
-use Rattle.paper.specs.declared.SystemNumber.TheVariants.{Known, NoSystem}
 use Rattle.paper.specs.Paper.{sound_start}
 use Rattle.rules_format.specs.Systems.{sequences_of, positions_of, is_count, system_of}
 use Rattle.rules_format.specs.Samples.{all_in_range, word_for, bytes_of}
@@ -154,11 +154,11 @@ module _ (y : System) (frame : List ℕ) (c : ℕ) (samples : List ℤ) where
 -- ---- replaceNumber
 
 module _ (k : ℕ) (frame : List ℕ) (c : ℕ) (samples : List ℤ) where
-  pub replace_1 : system_of k ≡ NoSystem → 1 ≡ replace_number k frame c samples
+  pub replace_1 : system_of k ≡ None → 1 ≡ replace_number k frame c samples
   unfolding replace_number first_of pick
   replace_1 e = rw e refl
 
-  module _ (y : System) (known : system_of k ≡ Known y) where
+  module _ (y : System) (known : system_of k ≡ Some y) where
     pub replace_2 : eqb (length frame) (48000 * sequences_of y) ≡ false → 2 ≡ replace_number k frame c samples
     unfolding replace_number first_of pick
     replace_2 e = rw (known, e) refl
@@ -240,7 +240,7 @@ pub replace_refused : {k : ℕ} {frame : List ℕ} {c : ℕ} {samples : List ℤ
 unfolding replace_left
 replace_refused {k} {frame} {c} {samples} w d = w.left ∙ pick_false _ _ (ne_eqb (replace_number k frame c samples) 0 (λ z. d (w.answer ∙ z)))
 
-pub replace_taken : {k : ℕ} {y : System} {frame : List ℕ} {c : ℕ} {samples : List ℤ} {frame' : List ℕ} → system_of k ≡ Known y → Replaced k frame c samples 0 frame'
+pub replace_taken : {k : ℕ} {y : System} {frame : List ℕ} {c : ℕ} {samples : List ℤ} {frame' : List ℕ} → system_of k ≡ Some y → Replaced k frame c samples 0 frame'
     → (replace_number k frame c samples ≡ 0) × (frame' ≡ replaced y frame c samples)
 unfolding replace_left
 replace_taken known w = (sym w.answer, w.left ∙ pick_true _ _ (eq-eqb _ 0 (sym w.answer)) ∙ rw known refl)
@@ -250,7 +250,7 @@ pub replace_stopped : (k : ℕ) (frame : List ℕ) (c : ℕ) (samples : List ℤ
 unfolding replace_left
 replace_stopped k frame c samples r e d = record { answer = e; left = sym (pick_false _ _ (ne_eqb _ 0 (λ z. d (e ∙ z)))) }
 
-pub replace_done : (k : ℕ) (y : System) (frame frame' : List ℕ) (c : ℕ) (samples : List ℤ) (r : ℕ) → system_of k ≡ Known y → r ≡ replace_number k frame c samples → r ≡ 0 → frame' ≡ replaced y frame c samples
+pub replace_done : (k : ℕ) (y : System) (frame frame' : List ℕ) (c : ℕ) (samples : List ℤ) (r : ℕ) → system_of k ≡ Some y → r ≡ replace_number k frame c samples → r ≡ 0 → frame' ≡ replaced y frame c samples
     → Replaced k frame c samples 0 frame'
 unfolding replace_left
 replace_done k y frame frame' c samples r known e z left =

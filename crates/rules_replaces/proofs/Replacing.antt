@@ -1,4 +1,5 @@
 -- The workshop of "A new commentary channel in a finished frame", of this call: the bytes that it exchanges. Assumes nothing.
+use Rattle.std.specs.Prelude.{Some}
 use mathlib.Core.Path.{◌≡◌, sym, ap, ◌∙◌, subst}
 use mathlib.Core.List.{List}
 use Prim.Native.Nat.{ℕ, ◌+◌, ◌/◌, ◌%◌, ◌<◌}
@@ -6,7 +7,6 @@ use native.Mathlib.Omega.{arith}
 use lib.IntN.{ℤ, pos}
 use lib.ListN.{length, get_or}
 use Rattle.paper.specs.declared.System.{System}
-use Rattle.paper.specs.declared.SystemNumber.TheVariants.{Known}
 use Rattle.paper.specs.Paper.{sequences, sound_start, word_by}
 use Rattle.promises.specs.Refusals.{count_stored}
 use Rattle.promises.specs.Commentary.{Exchanged}
@@ -21,12 +21,12 @@ use Rattle.rules_replaces.proofs.Replace.{word_start_lem, takes_above, takes_bel
 -- ---- replace_audio, where it answers 0
 
 pub by_replaced : {k : ℕ} {f : List ℕ} {c : ℕ} {samples : List ℤ} {g : List ℕ} {P : Type 0} → Replaced k f c samples 0 g
-    → ((y : System) → system_of k ≡ Known y → Takes y f c samples → P) → P
+    → ((y : System) → system_of k ≡ Some y → Takes y f c samples → P) → P
 by_replaced {k} {f} {c} {samples} call found =
     by_system k (λ none. absurd (omega (arith, call.answer, replace_1 k f c samples none)))
     (λ y known. found y known (taken_takes k f c samples y known (sym call.answer)))
 
-module _ (k : ℕ) (y : System) (known : system_of k ≡ Known y) (f : List ℕ) (c : ℕ) (samples : List ℤ) (t : Takes y f c samples) where
+module _ (k : ℕ) (y : System) (known : system_of k ≡ Some y) (f : List ℕ) (c : ℕ) (samples : List ℤ) (t : Takes y f c samples) where
   starts : (u : ℕ) → sound_start (sequences k) c u ≡ word_start y c u
   starts u = ap (λ (n : ℕ). sound_start n c u) (columns k y known).sequences_is ∙ sym (word_start_lem y c u)
 

@@ -1,5 +1,6 @@
 -- Every public call: one answer and one content of each lent buffer, for every input; a refusal writes nothing; what is in order is taken.
 -- Assumes nothing.
+use Rattle.std.specs.Prelude.{Option, Some, None}
 use mathlib.Core.Path.{◌≡◌, refl, sym, ap, ◌∙◌}
 use mathlib.Core.Bool.{true, false, ◌||◌}
 use mathlib.Core.List.{List, []}
@@ -13,8 +14,6 @@ use Rattle.base.specs.Pick.{pick}
 use Rattle.base.proofs.Cases.{by_bool, by_lt, by_eq}
 use Rattle.base.proofs.Picks.{pick_true, pick_false, neither}
 use Rattle.paper.specs.declared.System.{System}
-use Rattle.paper.specs.declared.SystemNumber.{SystemNumber}
-use Rattle.paper.specs.declared.SystemNumber.TheVariants.{Known, NoSystem}
 use Rattle.paper.specs.declared.Place.{Place}
 use Rattle.paper.specs.declared.Part.{Part}
 use Rattle.paper.specs.declared.IdValues.{IdValues}
@@ -126,11 +125,11 @@ survey_stopped number fs list k r e er =
 
 -- the number of a frame's survey
 module _ (k size : ℕ) where
-  pub survey_1 : system_of k ≡ NoSystem → survey_number k size ≡ 1
+  pub survey_1 : system_of k ≡ None → survey_number k size ≡ 1
   unfolding survey_number first_of pick
   survey_1 e = rw e refl
 
-  module _ (y : System) (known : system_of k ≡ Known y) where
+  module _ (y : System) (known : system_of k ≡ Some y) where
     pub survey_0 : size ≡ 48000 * sequences_of y → survey_number k size ≡ 0
     unfolding survey_number first_of pick
     survey_0 e = rw (known, eq-eqb _ _ e) refl
@@ -141,16 +140,16 @@ module _ (k size : ℕ) where
 
 -- the number of a sequence's survey
 module _ (k h q size : ℕ) where
-  pub sequence_1 : system_of k ≡ NoSystem → sequence_number k h q size ≡ 1
+  pub sequence_1 : system_of k ≡ None → sequence_number k h q size ≡ 1
   unfolding sequence_number first_of pick
   sequence_1 e = rw e refl
 
-  module _ (y : System) (known : system_of k ≡ Known y) where
-    pub sequence_3 : outside_sequences (Known y) h q ≡ true → sequence_number k h q size ≡ 3
+  module _ (y : System) (known : system_of k ≡ Some y) where
+    pub sequence_3 : outside_sequences (Some y) h q ≡ true → sequence_number k h q size ≡ 3
     unfolding sequence_number first_of pick
     sequence_3 o = rw (known, o) refl
 
-    module _ (inside : outside_sequences (Known y) h q ≡ false) where
+    module _ (inside : outside_sequences (Some y) h q ≡ false) where
       pub sequence_4 : (size ≡ 12000 → ⊥) → sequence_number k h q size ≡ 4
       unfolding sequence_number first_of pick
       sequence_4 d = rw (known, inside, ne_eqb _ _ d) refl
@@ -161,10 +160,10 @@ module _ (k h q size : ℕ) where
 
 -- ---- outsideSequences
 
-pub inside_means : (y : System) (h q : ℕ) → outside_sequences (Known y) h q ≡ false → (h < 4) × (q < sequences_of y)
+pub inside_means : (y : System) (h q : ℕ) → outside_sequences (Some y) h q ≡ false → (h < 4) × (q < sequences_of y)
 inside_means y h q o = let both = neither (leb 4 h) (leb (sequences_of y) q) o in (leb-false _ _ both.0, leb-false _ _ both.1)
 
-pub inside_when : (y : System) (h q : ℕ) → h < 4 → q < sequences_of y → outside_sequences (Known y) h q ≡ false
+pub inside_when : (y : System) (h q : ℕ) → h < 4 → q < sequences_of y → outside_sequences (Some y) h q ≡ false
 inside_when y h q hh hq = rw (lt-leb _ _ hh, lt-leb _ _ hq) refl
 
 -- ---- view_number and view
@@ -176,7 +175,7 @@ pub view_one : (k : ℕ) (frame : List ℕ) (h q : ℕ) (p : Place) → ExactlyO
 view_one k frame h q p = record { outcome = view_part k frame h q p; meets = record { answer = refl }; only = λ o m. m.answer }
 
 module _ (k : ℕ) (frame : List ℕ) (h q : ℕ) (p : Place) where
-  pub view_1 : system_of k ≡ NoSystem → view_number k frame h q p ≡ 1
+  pub view_1 : system_of k ≡ None → view_number k frame h q p ≡ 1
   unfolding view_number first_of pick
   view_1 e = rw e refl
 
@@ -185,7 +184,7 @@ module _ (k : ℕ) (frame : List ℕ) (h q : ℕ) (p : Place) where
   unfolding view_part
   view_refused d = pick_false _ _ (ne_eqb _ _ d)
 
-  module _ (y : System) (known : system_of k ≡ Known y) where
+  module _ (y : System) (known : system_of k ≡ Some y) where
     pub view_2 : (length frame ≡ 48000 * sequences_of y → ⊥) → view_number k frame h q p ≡ 2
     unfolding view_number first_of pick
     view_2 d = rw (known, ne_eqb _ _ d) refl
@@ -195,12 +194,12 @@ module _ (k : ℕ) (frame : List ℕ) (h q : ℕ) (p : Place) where
     view_taken z = pick_true _ _ (eq-eqb _ _ z) ∙ rw known refl
 
     module _ (whole : length frame ≡ 48000 * sequences_of y) where
-      pub view_3 : (outside_sequences (Known y) h q || leb 150 p.0) ≡ true → view_number k frame h q p ≡ 3
+      pub view_3 : (outside_sequences (Some y) h q || leb 150 p.0) ≡ true → view_number k frame h q p ≡ 3
       unfolding view_number first_of pick
       view_3 o = rw (known, eq-eqb _ _ whole, o) refl
 
       -- else the block's own fault, or 0
-      pub view_fault : (outside_sequences (Known y) h q || leb 150 p.0) ≡ false → view_number k frame h q p ≡ fault_at (block_at y frame h q p.0) h q p.0
+      pub view_fault : (outside_sequences (Some y) h q || leb 150 p.0) ≡ false → view_number k frame h q p ≡ fault_at (block_at y frame h q p.0) h q p.0
       unfolding view_number first_of pick
       view_fault o =
           let f = fault_at (block_at y frame h q p.0) h q p.0 in
@@ -212,10 +211,10 @@ module _ (k : ℕ) (frame : List ℕ) (h q : ℕ) (p : Place) where
     view_zero z =
         by_eq (length frame) (48000 * sequences_of y)
         (λ whole.
-        by_bool (outside_sequences (Known y) h q || leb 150 p.0)
+        by_bool (outside_sequences (Some y) h q || leb 150 p.0)
         (λ o. absurd (omega (arith, z, view_3 whole o)))
         (λ o.
-        let both = neither (outside_sequences (Known y) h q) (leb 150 p.0) o in
+        let both = neither (outside_sequences (Some y) h q) (leb 150 p.0) o in
         let i = inside_means y h q both.0 in
         (whole, i.0, i.1, leb-false _ _ both.1, sym (view_fault whole o) ∙ z)))
         (λ d. absurd (omega (arith, z, view_2 d)))
@@ -228,14 +227,14 @@ module _ (k : ℕ) (frame : List ℕ) (h q : ℕ) (p : Place) where
 
 module _ (k : ℕ) (frame : List ℕ) (h q : ℕ) (p : Place) where
   -- the bytes from the start on are the block
-  start_block : view_number k frame h q p ≡ 0 → (s : SystemNumber) → system_of k ≡ s → take 80 (drop (viewed_start s h q p.0) frame) ≡ viewed_block s frame h q p.0
+  start_block : view_number k frame h q p ≡ 0 → (s : Option System) → system_of k ≡ s → take 80 (drop (viewed_start s h q p.0) frame) ≡ viewed_block s frame h q p.0
   unfolding block_at
-  start_block z (Known y) e = refl
-  start_block z NoSystem e = absurd (omega (arith, z, view_1 k frame h q p e))
+  start_block z (Some y) e = refl
+  start_block z None e = absurd (omega (arith, z, view_1 k frame h q p e))
 
-  start_fits : view_number k frame h q p ≡ 0 → (s : SystemNumber) → system_of k ≡ s → viewed_start s h q p.0 + 80 ≤ length frame
-  start_fits z (Known y) e = let w = view_zero k frame h q p y e z in omega (arith, w.0, start_within y h q p.0 w.1 w.2 w.3)
-  start_fits z NoSystem e = absurd (omega (arith, z, view_1 k frame h q p e))
+  start_fits : view_number k frame h q p ≡ 0 → (s : Option System) → system_of k ≡ s → viewed_start s h q p.0 + 80 ≤ length frame
+  start_fits z (Some y) e = let w = view_zero k frame h q p y e z in omega (arith, w.0, start_within y h q p.0 w.1 w.2 w.3)
+  start_fits z None e = absurd (omega (arith, z, view_1 k frame h q p e))
 
   pub view_lies : (r : Part) → r ≡ view_at k frame h q p → ViewLies k frame h q p r
   unfolding view_at view_part
@@ -252,7 +251,7 @@ module _ (k : ℕ) (frame : List ℕ) (h q : ℕ) (p : Place) where
   unfolding view_at
   view_lies_stopped n en d r e = view_lies r (e ∙ ap no_part en ∙ sym (part_refused _ (viewed_start (system_of k) h q p.0) 80 (λ z. d (en ∙ z))))
 
-  pub view_lies_found : (y : System) → system_of k ≡ Known y → view_number k frame h q p ≡ 0 → ViewLies k frame h q p (record { number = 0; start = start_of y h q p.0; length = 80 })
+  pub view_lies_found : (y : System) → system_of k ≡ Some y → view_number k frame h q p ≡ 0 → ViewLies k frame h q p (record { number = 0; start = start_of y h q p.0; length = 80 })
   unfolding view_at
   view_lies_found y known z = view_lies _ (sym (part_taken _ (viewed_start (system_of k) h q p.0) 80 z ∙ rw known refl))
 

@@ -1,4 +1,5 @@
 -- The workshop of the fault list: what a survey of a frame or of a sequence lists, in document 01's numbers. Assumes nothing.
+use Rattle.std.specs.Prelude.{Some}
 use mathlib.Core.Path.{◌≡◌, refl, sym, ap, ◌∙◌}
 use mathlib.Core.List.{List, [], ◌++◌, append-nil}
 use Prim.Native.Nat.{ℕ, ◌+◌, ◌*◌, ◌/◌, ◌%◌, ◌≤◌, ◌<◌, min}
@@ -13,7 +14,6 @@ use Rattle.base.proofs.Cases.{by_bool, by_eq}
 use Rattle.base.proofs.Parts.{length_part}
 use Rattle.base.proofs.Runs.{run_same}
 use Rattle.paper.specs.declared.System.{System}
-use Rattle.paper.specs.declared.SystemNumber.TheVariants.{Known}
 use Rattle.paper.specs.declared.Fault.{Fault}
 use Rattle.paper.specs.declared.Survey.{Survey}
 use Rattle.rules_format.specs.Systems.{sequences_of}
@@ -121,7 +121,7 @@ sequence_listed k h q {sequence} s z =
     by_system k
     (λ none. absurd (omega (arith, zero, sequence_1 k h q (length sequence) none)))
     (λ y known.
-    by_bool (outside_sequences (Known y) h q)
+    by_bool (outside_sequences (Some y) h q)
     (λ o. absurd (omega (arith, zero, sequence_3 k h q (length sequence) y known o)))
     (λ o.
     by_eq (length sequence) 12000

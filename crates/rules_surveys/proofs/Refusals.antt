@@ -1,4 +1,5 @@
 -- Each call's refusal table, in document 01's numbers and bytes, gives exactly the number that the call's contract has. Assumes nothing.
+use Rattle.std.specs.Prelude.{Some}
 use mathlib.Core.Path.{◌≡◌, refl, sym, ap, ◌∙◌}
 use mathlib.Core.Bool.{true, false, not, ◌||◌}
 use mathlib.Core.List.{List, [], ◌∷◌}
@@ -12,7 +13,6 @@ use Rattle.base.specs.Calls.{first_of, ◌when◌}
 use Rattle.base.proofs.Cases.{by_bool}
 use Rattle.base.proofs.Picks.{neither}
 use Rattle.paper.specs.declared.System.{System}
-use Rattle.paper.specs.declared.SystemNumber.TheVariants.{Known}
 use Rattle.paper.specs.declared.Place.{Place}
 use Rattle.rules_format.specs.Systems.{sequences_of, positions_of, system_of, positions_in, frame_bytes}
 use Rattle.rules_format.specs.Blocks.{block_at}
@@ -53,14 +53,14 @@ salvage_exactly k f room =
 
 -- ---- survey_sequence
 
-module _ (k : ℕ) (y : System) (known : system_of k ≡ Known y) (h q : ℕ) where
-  outside_means : outside_sequences (Known y) h q ≡ true → (4 ≤ h) ⊎ (sequences k ≤ q)
+module _ (k : ℕ) (y : System) (known : system_of k ≡ Some y) (h q : ℕ) where
+  outside_means : outside_sequences (Some y) h q ≡ true → (4 ≤ h) ⊎ (sequences k ≤ q)
   outside_means e =
       by_bool (leb 4 h)
       (λ t. inl (leb-true 4 h t))
       (λ t. let l = leb-true (sequences_of y) q (rw t at e) in inr (omega (arith, l, (columns k y known).sequences_is)))
 
-  outside_not : outside_sequences (Known y) h q ≡ false → (4 ≤ h) ⊎ (sequences k ≤ q) → ⊥
+  outside_not : outside_sequences (Some y) h q ≡ false → (4 ≤ h) ⊎ (sequences k ≤ q) → ⊥
   outside_not e =
       let two = neither (leb 4 h) (leb (sequences_of y) q) e in
       ⊎_elim (λ l. omega (arith, l, leb-false 4 h two.0)) (λ l. omega (arith, l, leb-false (sequences_of y) q two.1, (columns k y known).sequences_is))
@@ -70,16 +70,16 @@ unfolding sequence_number
 sequence_exactly k h q size =
     row_system k _ (λ s. 3 when outside_sequences s h q ∷ 4 when not (eqb size 12000) ∷ [])
     (λ y known.
-    row_exactly 3 (outside_sequences (Known y) h q) _ _ (outside_means k y known h q) (outside_not k y known h q)
+    row_exactly 3 (outside_sequences (Some y) h q) _ _ (outside_means k y known h q) (outside_not k y known h q)
     (λ e. row_differs 4 size 12000 12000 none [] refl (λ s. exactly_none)))
 
 -- ---- view_number, view, view_at
 
-module _ (k : ℕ) (y : System) (known : system_of k ≡ Known y) (f : List ℕ) (whole : length f ≡ 48000 * sequences_of y) (h q p : ℕ) where
-  module _ (inside : (outside_sequences (Known y) h q || leb 150 p) ≡ false) where
+module _ (k : ℕ) (y : System) (known : system_of k ≡ Some y) (f : List ℕ) (whole : length f ≡ 48000 * sequences_of y) (h q p : ℕ) where
+  module _ (inside : (outside_sequences (Some y) h q || leb 150 p) ≡ false) where
     own_fault : fault_at (block_at y f h q p) h q p ≡ fault (byte_at (sequences k) f h q p 0) (byte_at (sequences k) f h q p 1) (byte_at (sequences k) f h q p 2) h q p
     own_fault =
-        let two = neither (outside_sequences (Known y) h q) (leb 150 p) inside in
+        let two = neither (outside_sequences (Some y) h q) (leb 150 p) inside in
         let i = inside_means y h q two.0 in
         let wide = block_length y f h q p whole i.0 i.1 (leb-false 150 p two.1) in
         fault_is (block_at y f h q p) h q p (omega (arith, wide))
@@ -92,15 +92,15 @@ module _ (k : ℕ) (y : System) (known : system_of k ≡ Known y) (f : List ℕ)
         (λ r g. (g.some, g.is ∙ sym own_fault))
         (λ z. exactly_none)
 
-  away_means : (outside_sequences (Known y) h q || leb 150 p) ≡ true → ((4 ≤ h) ⊎ (sequences k ≤ q)) ⊎ (150 ≤ p)
+  away_means : (outside_sequences (Some y) h q || leb 150 p) ≡ true → ((4 ≤ h) ⊎ (sequences k ≤ q)) ⊎ (150 ≤ p)
   away_means e =
-      by_bool (outside_sequences (Known y) h q)
+      by_bool (outside_sequences (Some y) h q)
       (λ t. inl (outside_means k y known h q t))
       (λ t. inr (leb-true 150 p (rw t at e)))
 
-  away_not : (outside_sequences (Known y) h q || leb 150 p) ≡ false → ((4 ≤ h) ⊎ (sequences k ≤ q)) ⊎ (150 ≤ p) → ⊥
+  away_not : (outside_sequences (Some y) h q || leb 150 p) ≡ false → ((4 ≤ h) ⊎ (sequences k ≤ q)) ⊎ (150 ≤ p) → ⊥
   away_not e =
-      let two = neither (outside_sequences (Known y) h q) (leb 150 p) e in
+      let two = neither (outside_sequences (Some y) h q) (leb 150 p) e in
       ⊎_elim (outside_not k y known h q two.0) (λ l. omega (arith, l, leb-false 150 p two.1))
 
 pub view_exactly : (k : ℕ) (f : List ℕ) (h q : ℕ) (p : Place) → Exactly (view_table k f h q p.0) (view_number k f h q p)
@@ -114,5 +114,5 @@ view_exactly k f h q p =
     ∷ [])
     (λ y known.
     row_length k y known (length f) _ _ (λ whole.
-    row_exactly 3 (outside_sequences (Known y) h q || leb 150 p.0) _ _ (away_means k y known f whole h q p.0) (away_not k y known f whole h q p.0)
+    row_exactly 3 (outside_sequences (Some y) h q || leb 150 p.0) _ _ (away_means k y known f whole h q p.0) (away_not k y known f whole h q p.0)
     (row_own k y known f whole h q p.0)))

@@ -1,5 +1,6 @@
 -- The call `salvage`: one answer and one content of each buffer for every input, a refusal writes nothing, each position by its block,
 -- the same list as the survey. Assumes nothing.
+use Rattle.std.specs.Prelude.{Some, None}
 use mathlib.Core.Path.{◌≡◌, refl, sym, ap, ◌∙◌}
 use mathlib.Core.Bool.{true, false}
 use mathlib.Core.List.{List}
@@ -15,7 +16,6 @@ use Rattle.base.proofs.Cases.{by_bool}
 use Rattle.base.proofs.Picks.{pick_true, pick_false}
 use Rattle.base.proofs.Runs.{length_run, length_tab, tab_at, run_element}
 use Rattle.paper.specs.declared.System.{System}
-use Rattle.paper.specs.declared.SystemNumber.TheVariants.{Known, NoSystem}
 use Rattle.paper.specs.declared.Survey.{Survey}
 use Rattle.rules_format.specs.Systems.{sequences_of, positions_of, system_of}
 use Rattle.rules_format.specs.Samples.{lost, number_of}
@@ -55,11 +55,11 @@ module _ (y : System) (frame : List ℕ) (c t : ℕ) (c1 : 0 < c) (c8 : c < 9) (
 -- ---- salvageNumber: each number exactly when its row is the first that holds
 
 module _ (k : ℕ) (frame : List ℕ) (size : ℕ) where
-  pub salvage_1 : system_of k ≡ NoSystem → 1 ≡ salvage_number k frame size
+  pub salvage_1 : system_of k ≡ None → 1 ≡ salvage_number k frame size
   unfolding salvage_number first_of pick
   salvage_1 e = rw e refl
 
-  module _ (y : System) (known : system_of k ≡ Known y) where
+  module _ (y : System) (known : system_of k ≡ Some y) where
     pub salvage_2 : eqb (length frame) (48000 * sequences_of y) ≡ false → 2 ≡ salvage_number k frame size
     unfolding salvage_number first_of pick
     salvage_2 e = rw (known, e) refl
@@ -104,7 +104,7 @@ module _ {k : ℕ} {frame : List ℕ} {samples samples' : List ℤ} {list list' 
   unfolding salvage_left
   salvage_refused d = let v = survey_refused s.survey d in (v.0, s.left ∙ pick_false _ _ (ne_eqb _ 0 d), v.1)
 
-  module _ (y : System) (known : system_of k ≡ Known y) (zero : salvage_number k frame (length samples) ≡ 0) where
+  module _ (y : System) (known : system_of k ≡ Some y) (zero : salvage_number k frame (length samples) ≡ 0) where
     pub salvage_taken : samples' ≡ salvaged y frame
     unfolding salvage_left
     salvage_taken = s.left ∙ pick_true _ _ (eq-eqb _ 0 zero) ∙ rw known refl

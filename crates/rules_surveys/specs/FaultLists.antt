@@ -1,9 +1,8 @@
 -- The blocks of a frame that do not name their place, in stream order, each with its fault (document 01, "Refusal numbers and their order").
-use Rattle.std.specs.Prelude.{List, [], ◌∷◌, Bool, ℕ, zero, suc, ◌+◌}
+use Rattle.std.specs.Prelude.{List, [], ◌∷◌, Bool, ℕ, zero, suc, ◌+◌, Option}
 use Rattle.base.specs.Pick.{pick}
 use Rattle.base.specs.Run.{run}
 use Rattle.paper.specs.declared.System.{System}
-use Rattle.paper.specs.declared.SystemNumber.{SystemNumber}
 use Rattle.paper.specs.declared.Fault.{Fault}
 use Rattle.rules_format.specs.Systems.{sequences_of, in_system}
 use Rattle.rules_format.specs.Places.{place}
@@ -32,7 +31,7 @@ channel_faults y frame h = run (part_faults y frame h) (sequences_of y)
 unfoldable pub frame_faults : System → List ℕ → List Fault
 frame_faults y frame = run (channel_faults y frame) 4
 
-abbrev pub faults_in : SystemNumber → List ℕ → List Fault
+abbrev pub faults_in : Option System → List ℕ → List Fault
 faults_in s frame = in_system [] (λ (y : System). frame_faults y frame) s
 
 -- ---- the same by the number of a block in the stream

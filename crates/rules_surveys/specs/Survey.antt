@@ -1,8 +1,8 @@
 -- The calls `survey` and `survey_sequence`.
-use Rattle.std.specs.Prelude.{◌≡◌, Bool, not, ◌||◌, List, [], ◌∷◌, ℕ, eqb, leb, length}
+use Rattle.paper.specs.declared.System.{System}
+use Rattle.std.specs.Prelude.{◌≡◌, Bool, not, ◌||◌, List, [], ◌∷◌, ℕ, eqb, leb, length, Option}
 use Rattle.base.specs.Calls.{first_of, ◌when◌}
 use Rattle.base.specs.Pick.{pick}
-use Rattle.paper.specs.declared.SystemNumber.{SystemNumber}
 use Rattle.paper.specs.declared.Fault.{Fault}
 use Rattle.paper.specs.declared.Survey.{Survey}
 use Rattle.rules_format.specs.Systems.{system_of, is_no_system, sequences_in, frame_bytes}
@@ -12,7 +12,7 @@ use Rattle.rules_surveys.specs.Records.{kept, after}
 -- ---- the refusals in their order
 
 -- 3: channel or sequence outside the system
-abbrev pub outside_sequences : SystemNumber → ℕ → ℕ → Bool
+abbrev pub outside_sequences : Option System → ℕ → ℕ → Bool
 outside_sequences s h q = leb 4 h || leb (sequences_in s) q
 
 -- "Salvage and survey use 1, 2, 4": a survey is lent the fault list alone, which may have any length, so 4 is never due

@@ -1,9 +1,8 @@
 -- The calls `view_number`, `view` and `view_at`: "A block view uses 1, 2, 3 and its own block's 11-15."
-use Rattle.std.specs.Prelude.{◌≡◌, not, ◌||◌, List, [], ◌∷◌, ℕ, eqb, leb, length}
+use Rattle.std.specs.Prelude.{◌≡◌, not, ◌||◌, List, [], ◌∷◌, ℕ, eqb, leb, length, Option}
 use Rattle.base.specs.Calls.{first_of, ◌when◌}
 use Rattle.base.specs.Pick.{pick}
 use Rattle.paper.specs.declared.System.{System}
-use Rattle.paper.specs.declared.SystemNumber.{SystemNumber}
 use Rattle.paper.specs.declared.Place.{Place}
 use Rattle.paper.specs.declared.Part.{Part}
 use Rattle.rules_format.specs.Systems.{in_system, system_of, is_no_system, frame_bytes}
@@ -12,7 +11,7 @@ use Rattle.rules_format.specs.Faults.{fault_at}
 use Rattle.rules_surveys.specs.Survey.{outside_sequences}
 
 -- the block that is viewed
-abbrev pub viewed_block : SystemNumber → List ℕ → ℕ → ℕ → ℕ → List ℕ
+abbrev pub viewed_block : Option System → List ℕ → ℕ → ℕ → ℕ → List ℕ
 viewed_block s frame h q p = in_system [] (λ (y : System). block_at y frame h q p) s
 
 unfoldable pub view_number : ℕ → List ℕ → ℕ → ℕ → Place → ℕ
@@ -31,7 +30,7 @@ unfoldable pub view_part : ℕ → List ℕ → ℕ → ℕ → Place → List �
 view_part k frame h q p = pick (eqb (view_number k frame h q p) 0) (viewed_block (system_of k) frame h q p.0) []
 
 -- the same part by its first byte and its length
-abbrev pub viewed_start : SystemNumber → ℕ → ℕ → ℕ → ℕ
+abbrev pub viewed_start : Option System → ℕ → ℕ → ℕ → ℕ
 viewed_start s h q p = in_system 0 (λ (y : System). start_of y h q p) s
 
 unfoldable pub view_at : ℕ → List ℕ → ℕ → ℕ → Place → Part

@@ -1,4 +1,5 @@
 -- A written frame has the form of document 01, byte by byte, and holds what the writer was given. Assumes nothing.
+use Rattle.std.specs.Prelude.{Some}
 use mathlib.Core.Path.{◌≡◌, refl, sym, ap, ap₂, ◌∙◌, subst}
 use mathlib.Core.Bool.{true}
 use mathlib.Core.Logic.{inl, inr, ⊎_elim}
@@ -12,7 +13,6 @@ use Rattle.base.specs.Run.{run, Wide}
 use Rattle.base.proofs.Parts.{part_part}
 use Rattle.base.proofs.Runs.{end_within, length_run, run_at}
 use Rattle.paper.specs.declared.System.{System}
-use Rattle.paper.specs.declared.SystemNumber.TheVariants.{Known}
 use Rattle.paper.specs.declared.Section.{Section}
 use Rattle.paper.specs.declared.Section.TheVariants.{Header, Subcode, Vaux, Audio, Video}
 use Rattle.paper.specs.declared.Pack.{Pack}
@@ -83,7 +83,7 @@ size_high count = omega (arith, size_below count)
 
 -- ---- HasForm
 
-module _ (k : ℕ) (y : System) (known : system_of k ≡ Known y) (l : Contents) where
+module _ (k : ℕ) (y : System) (known : system_of k ≡ Some y) (l : Contents) where
   w : List ℕ
   w = written_frame y l
 
@@ -262,7 +262,7 @@ module _ (k : ℕ) (y : System) (known : system_of k ≡ Known y) (l : Contents)
 
 -- ---- LaidOut
 
-module _ (k : ℕ) (y : System) (known : system_of k ≡ Known y) (l : Contents) (size : ℕ) (takes : Takes y l size) where
+module _ (k : ℕ) (y : System) (known : system_of k ≡ Some y) (l : Contents) (size : ℕ) (takes : Takes y l size) where
   -- the word of a sample that was given
   word_given : (c t : ℕ) → 0 < c → c < 9 → t < l.count → stored_word l c t ≡ word_by (given l c t)
   word_given c t c1 c8 ht = stored_word_lem l c t c1 c8 takes.sounds takes.levels ht ∙ word_is (given l c t) (given_in l c t c1 c8 takes.sounds takes.levels ht)

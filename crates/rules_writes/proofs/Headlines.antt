@@ -1,4 +1,5 @@
 -- What an edit of this crate's definitions is refused by: what the promises ask of the writer. Assumes nothing.
+use Rattle.std.specs.Prelude.{Some}
 use mathlib.Core.Path.{◌≡◌}
 use mathlib.Core.List.{List}
 use Prim.Native.Nat.{ℕ}
@@ -6,7 +7,6 @@ use lib.IntN.{ℤ}
 use Rattle.promises.specs.Contents.{Contents}
 use Rattle.rules_writes.specs.Write.{Wrote, contents_of, Takes, write_number}
 use Rattle.paper.specs.declared.System.{System}
-use Rattle.paper.specs.declared.SystemNumber.TheVariants.{Known}
 use Rattle.rules_format.specs.Systems.{system_of}
 use Rattle.rules_writes.proofs.Write.{taken_takes, takes_taken, contents_are}
 use Rattle.paper.specs.Paper.{macroblocks}
@@ -32,6 +32,6 @@ pub frame_laid_out : {k : ℕ} {l : Contents} {frame f : List ℕ} → Wrote k l
 frame_laid_out = frame_laid
 
 -- what is taken, in clauses
-pub takes : (k : ℕ) (y : System) → system_of k ≡ Known y → (l : Contents) (size : ℕ)
+pub takes : (k : ℕ) (y : System) → system_of k ≡ Some y → (l : Contents) (size : ℕ)
     → (write_number k l size ≡ 0 → Takes y l size) × (Takes y l size → write_number k l size ≡ 0)
 takes k y known l size = (taken_takes k l size y known, takes_taken k l size y known)

@@ -1,4 +1,5 @@
 -- The writer's refusal table, in document 01's numbers and bytes, gives exactly the number that its contract has. Assumes nothing.
+use Rattle.std.specs.Prelude.{Some}
 use mathlib.Core.Path.{◌≡◌, sym, ap, ◌∙◌}
 use mathlib.Core.Bool.{true, false, not}
 use mathlib.Core.List.{List, [], ◌∷◌}
@@ -11,7 +12,6 @@ use Rattle.base.specs.Calls.{Refusal, first_of, ◌when◌}
 use Rattle.base.proofs.Cases.{by_eq, clash}
 use Rattle.base.proofs.Picks.{both_held, both_hold}
 use Rattle.paper.specs.declared.System.{System}
-use Rattle.paper.specs.declared.SystemNumber.TheVariants.{Known}
 use Rattle.rules_format.specs.Systems.{macroblocks_of, is_count, system_of, passes, frame_bytes}
 use Rattle.rules_format.specs.Samples.{all_in_range}
 use Rattle.promises.specs.Contents.{Contents}
@@ -25,7 +25,7 @@ use Rattle.rules_packs.specs.TimeCode.{time_taken, time_pack}
 
 -- ---- 32
 
-row_32 : (k : ℕ) (y : System) → system_of k ≡ Known y → (time : List ℕ) (table : Table) (rows : List Refusal)
+row_32 : (k : ℕ) (y : System) → system_of k ≡ Some y → (time : List ℕ) (table : Table) (rows : List Refusal)
     → (time_taken y (time_pack time) ≡ true → Exactly table (first_of rows))
     → Exactly (32 if WrongTime k time else table) (first_of (32 when not (time_taken y (time_pack time)) ∷ rows))
 row_32 k y known time table rows rest =
@@ -36,7 +36,7 @@ row_32 k y known time table rows rest =
 
 -- ---- write_frame
 
-module _ (k : ℕ) (y : System) (known : system_of k ≡ Known y) (l : Contents) where
+module _ (k : ℕ) (y : System) (known : system_of k ≡ Some y) (l : Contents) where
   lengths_means : lengths_ok l y ≡ false → WrongLengths k l
   lengths_means e =
       let m = (columns k y known).macroblocks_is in

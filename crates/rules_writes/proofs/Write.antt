@@ -1,5 +1,6 @@
 -- The call `write_frame`: one answer and one frame for every input, each refusal exactly when its row says, a refusal writes nothing,
 -- what is in order is taken. Assumes nothing.
+use Rattle.std.specs.Prelude.{Some, None}
 use mathlib.Core.Path.{◌≡◌, refl, sym, ◌∙◌}
 use mathlib.Core.Bool.{true, false}
 use mathlib.Core.List.{List}
@@ -12,7 +13,6 @@ use Rattle.base.specs.Calls.{first_of, ExactlyOne}
 use Rattle.base.specs.Pick.{pick}
 use Rattle.base.proofs.Picks.{pick_true, pick_false, first_zero, both_held, both_hold}
 use Rattle.paper.specs.declared.System.{System}
-use Rattle.paper.specs.declared.SystemNumber.TheVariants.{Known, NoSystem}
 use Rattle.rules_format.specs.Systems.{sequences_of, is_count, system_of}
 use Rattle.rules_packs.specs.TimeCode.{time_pack, time_taken}
 use Rattle.rules_format.specs.Samples.{all_in_range}
@@ -43,11 +43,11 @@ write_refused {k} {l} {frame} w d = w.left ∙ pick_false _ _ (ne_eqb (write_num
 -- ---- writeNumber: each number exactly when its row is the first that holds
 
 module _ (k : ℕ) (l : Contents) (size : ℕ) where
-  pub write_1 : system_of k ≡ NoSystem → 1 ≡ write_number k l size
+  pub write_1 : system_of k ≡ None → 1 ≡ write_number k l size
   unfolding write_number first_of pick
   write_1 e = rw e refl
 
-  module _ (y : System) (known : system_of k ≡ Known y) where
+  module _ (y : System) (known : system_of k ≡ Some y) where
     pub write_2 : eqb size (48000 * sequences_of y) ≡ false → 2 ≡ write_number k l size
     unfolding write_number first_of pick
     write_2 e = rw (known, e) refl
@@ -110,7 +110,7 @@ module _ (k : ℕ) (l : Contents) (size : ℕ) where
 -- ---- writeLeft
 
 -- a frame that was written is that of what was lent, which is in order
-module _ (k : ℕ) (y : System) (known : system_of k ≡ Known y) (l : Contents) (frame : List ℕ) where
+module _ (k : ℕ) (y : System) (known : system_of k ≡ Some y) (l : Contents) (frame : List ℕ) where
   pub write_takes : {frame' : List ℕ} → Wrote k l frame 0 frame' → Takes y l (length frame)
   write_takes w = taken_takes k l (length frame) y known (sym w.answer)
 
@@ -125,7 +125,7 @@ pub write_stopped : (k : ℕ) (l : Contents) (frame : List ℕ) (r : ℕ) → r 
 unfolding write_left
 write_stopped k l frame r e d = record { answer = e; left = sym (pick_false _ _ (ne_eqb _ 0 (λ z. d (e ∙ z)))) }
 
-pub write_done : (k : ℕ) (y : System) (l : Contents) (frame frame' : List ℕ) (r : ℕ) → system_of k ≡ Known y → r ≡ write_number k l (length frame) → r ≡ 0 → frame' ≡ written_frame y l
+pub write_done : (k : ℕ) (y : System) (l : Contents) (frame frame' : List ℕ) (r : ℕ) → system_of k ≡ Some y → r ≡ write_number k l (length frame) → r ≡ 0 → frame' ≡ written_frame y l
     → Wrote k l frame 0 frame'
 unfolding write_left
 write_done k y l frame frame' r known e z left =

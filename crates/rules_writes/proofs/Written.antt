@@ -1,4 +1,5 @@
 -- Laws of a written frame: its length, its blocks, that each names its place, and what stands in them. Assumes nothing.
+use Rattle.std.specs.Prelude.{Option, Some, None}
 use mathlib.Core.Path.{◌≡◌, refl, ap, ap₂, ◌∙◌, subst}
 use mathlib.Core.Bool.{true, false}
 use mathlib.Core.List.{List, ◌++◌}
@@ -18,8 +19,6 @@ use Rattle.paper.specs.declared.Section.{Section}
 use Rattle.paper.specs.declared.Section.TheVariants.{Header, Subcode, Vaux, Audio, Video}
 use Rattle.paper.specs.declared.BlockId.{BlockId}
 use Rattle.paper.specs.declared.Pack.{Pack}
-use Rattle.paper.specs.declared.Carried.{Carried}
-use Rattle.paper.specs.declared.Carried.TheVariants.{Macroblock, Nothing}
 use Rattle.rules_format.specs.Systems.{sequences_of, half_of, positions_of, rate_of}
 use Rattle.rules_format.specs.Places.{place, entry_at, place_in, blocks_of}
 use Rattle.rules_format.specs.Ids.{id_bytes, id_of, id_at}
@@ -60,10 +59,10 @@ pub audio_length : (y : System) (source asc : Pack) (samples : List ℤ) (q a : 
 unfolding audio_bytes
 audio_length y source asc samples q a = omega (arith, length_run 2 (word_bytes y samples q a) (word_wide y samples q a) 36)
 
-carried_length : (macroblocks : List ℕ) (c : Carried) → length (carried_bytes macroblocks c) ≡ 77
+carried_length : (macroblocks : List ℕ) (c : Option ℕ) → length (carried_bytes macroblocks c) ≡ 77
 unfolding carried_bytes
-carried_length macroblocks (Macroblock b) = length_tab _ 77
-carried_length macroblocks Nothing = refl
+carried_length macroblocks (Some b) = length_tab _ 77
+carried_length macroblocks None = refl
 
 pub video_length : (y : System) (macroblocks : List ℕ) (h q v : ℕ) → length (video_bytes y macroblocks h q v) ≡ 77
 unfolding video_bytes
@@ -246,13 +245,13 @@ module _ (y : System) (l : Contents) (h q v : ℕ) (hh : h < 4) (hq : q < sequen
   abbrev pub picture_bytes : List ℕ
   picture_bytes = drop 3 (block_at y (written_frame y l) h q (place_in Video v))
 
-  pub frame_macroblock : (b : ℕ) → carried_in y (slot h q v) ≡ Macroblock b → 77 * b + 77 ≤ length l.macroblocks
+  pub frame_macroblock : (b : ℕ) → carried_in y (slot h q v) ≡ Some b → 77 * b + 77 ≤ length l.macroblocks
       → picture_bytes ≡ take 77 (drop (77 * b) l.macroblocks)
   unfolding payload video_bytes carried_bytes
   frame_macroblock b e room =
       frame_payload y l h q Video v hh hq hv ∙ ap (carried_bytes l.macroblocks) e ∙ tab_part 0 l.macroblocks (77 * b) 77 room
 
-  pub frame_empty : carried_in y (slot h q v) ≡ Nothing → picture_bytes ≡ replicate 77 0xFF
+  pub frame_empty : carried_in y (slot h q v) ≡ None → picture_bytes ≡ replicate 77 0xFF
   unfolding payload video_bytes carried_bytes
   frame_empty e = frame_payload y l h q Video v hh hq hv ∙ ap (carried_bytes l.macroblocks) e
 

@@ -1,5 +1,5 @@
 -- What a written frame holds, block by block in stream order. Each payload is told what it says, and no more.
-use Rattle.std.specs.Prelude.{List, ◌++◌, ℕ, ◌+◌, ◌-◌, ◌*◌, ltb, ℤ, pos, length, take, drop, get_or, replicate}
+use Rattle.std.specs.Prelude.{List, ◌++◌, ℕ, ◌+◌, ◌-◌, ◌*◌, ltb, ℤ, pos, length, take, drop, get_or, replicate, Option, Some, None}
 use Rattle.base.specs.Pick.{pick}
 use Rattle.base.specs.Run.{run, tab}
 use Rattle.paper.specs.declared.System.{System}
@@ -8,8 +8,6 @@ use Rattle.paper.specs.declared.Section.TheVariants.{Header, Subcode, Vaux, Audi
 use Rattle.paper.specs.declared.Entry.{Entry}
 use Rattle.paper.specs.declared.Pack.{Pack}
 use Rattle.paper.specs.declared.Repeated.{Repeated}
-use Rattle.paper.specs.declared.Carried.{Carried}
-use Rattle.paper.specs.declared.Carried.TheVariants.{Macroblock, Nothing}
 use Rattle.rules_format.specs.Systems.{sequences_of, half_of}
 use Rattle.rules_format.specs.Places.{place, entry_at}
 use Rattle.rules_format.specs.Ids.{id_bytes, id_of}
@@ -42,9 +40,9 @@ audio_bytes y source asc samples q a = pack_bytes (aaux_pack source asc q a) ++ 
 
 -- ---- picture: 77 bytes a macroblock in number order; a slot that carries none has "payload FFh"
 
-unfoldable pub carried_bytes : List ℕ → Carried → List ℕ
-carried_bytes macroblocks (Macroblock b) = tab (λ (i : ℕ). get_or macroblocks (77 * b + i) 0) 77
-carried_bytes macroblocks Nothing = replicate 77 0xFF
+unfoldable pub carried_bytes : List ℕ → Option ℕ → List ℕ
+carried_bytes macroblocks (Some b) = tab (λ (i : ℕ). get_or macroblocks (77 * b + i) 0) 77
+carried_bytes macroblocks None = replicate 77 0xFF
 
 -- bytes 3 to 79 of V(v) in sequence q of DIF channel h
 unfoldable pub video_bytes : System → List ℕ → ℕ → ℕ → ℕ → List ℕ

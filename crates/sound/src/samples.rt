@@ -3,19 +3,19 @@ ghost use Rattle.std.specs.Prelude.{◌≡◌, get_or, ◌+◌, ◌*◌};
 ghost use Rattle.rules_format.specs.Samples.{number_of, sample_in, sample_of, word_of, word_for};
 
 use crate::{levels, range};
-use paper::{Sample, SampleNumber};
+use paper::Sample;
 
 // The sample of a number.
-fn sample_in(x: i32) -> SampleNumber
+fn sample_in(x: i32) -> Option<Sample>
     ensures { result ≡ sample_in x }
 {
     if !range::in_range(x) {
-        return SampleNumber::NoSample;
+        return None;
     }
     if x == 32768 {
-        return SampleNumber::Sampled(Sample::Lost);
+        return Some(Sample::Lost);
     }
-    SampleNumber::Sampled(Sample::Level(x as i16))
+    Some(Sample::Level(x as i16))
 }
 
 // The number of a sample.
@@ -58,7 +58,7 @@ pub fn word_for(x: i32) -> u32
     ensures { result ≡ word_for x }
 {
     match sample_in(x) {
-        SampleNumber::Sampled(s) => word_of(s),
-        SampleNumber::NoSample => 0,
+        Some(s) => word_of(s),
+        None => 0,
     }
 }

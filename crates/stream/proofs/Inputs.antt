@@ -1,4 +1,5 @@
 -- What is known of the bytes so far, and of one part more. Assumes nothing.
+use Rattle.std.specs.Prelude.{Some}
 use mathlib.Core.Path.{◌≡◌, refl, sym, ap, ◌∙◌}
 use mathlib.Core.Bool.{Bool, true, false}
 use mathlib.Core.List.{List, [], ◌∷◌, ◌++◌}
@@ -16,7 +17,6 @@ use Rattle.base.proofs.Picks.{pick_true, pick_false}
 use Rattle.base.proofs.Runs.{run_zero, run_same, run_length_le}
 use Rattle.paper.specs.declared.System.{System}
 use Rattle.paper.specs.declared.System.TheVariants.{I50}
-use Rattle.paper.specs.declared.SystemNumber.TheVariants.{Known}
 use Rattle.rules_format.specs.Systems.{sequences_of}
 use Rattle.rules_format.specs.Blocks.{sequence_at}
 use Rattle.rules_surveys.specs.FaultLists.{sequence_faults}
@@ -188,9 +188,9 @@ module _ (y : System) (list₀ bytes part list list' : List ℕ) (k c t u : ℕ)
   more_short : length part < 12000 → Noted list₀ 0 (read_faults y (bytes ++ part)) list' u
   more_short l =
       let size : length (bytes ++ part) / 12000 ≡ k = omega (arith, length-append bytes part) in
-      more_none (none_short (outside_sequences (Known y) (c / 12000 / sequences_of y) (c / 12000 % sequences_of y)) refl) (rw size refl)
+      more_none (none_short (outside_sequences (Some y) (c / 12000 / sequences_of y) (c / 12000 % sequences_of y)) refl) (rw size refl)
     where
-      none_short : (o : Bool) → o ≡ outside_sequences (Known y) (c / 12000 / sequences_of y) (c / 12000 % sequences_of y) → faults_after y (c / 12000) part t ≡ []
+      none_short : (o : Bool) → o ≡ outside_sequences (Some y) (c / 12000 / sequences_of y) (c / 12000 % sequences_of y) → faults_after y (c / 12000) part t ≡ []
       none_short true eo = none_outside y _ _ part t true eo refl
       none_short false eo = none_length y _ _ part t false eo refl (λ e. omega (arith, e))
 

@@ -1,4 +1,5 @@
 -- The ways out of the public calls. s is what the code's `system_of` answers, n the frame's bytes. Assumes nothing.
+use Rattle.std.specs.Prelude.{Option, Some, None}
 use mathlib.Core.Path.{◌≡◌, refl, sym, ◌∙◌}
 use mathlib.Core.List.{List}
 use mathlib.Core.Bool.{Bool, true, false, not}
@@ -8,8 +9,6 @@ use lib.Dec.{eqb}
 use lib.ListN.{length}
 use borrow.Author.Tests.{eqb-true, eqb-false, not-true, not-false}
 use Rattle.paper.specs.declared.System.{System}
-use Rattle.paper.specs.declared.SystemNumber.TheVariants.{Known, NoSystem}
-use Rattle.paper.specs.declared.SystemNumber.{SystemNumber}
 use Rattle.paper.specs.declared.Survey.{Survey}
 use Rattle.rules_format.specs.Systems.{sequences_of, system_of}
 use Rattle.rules_surveys.specs.FaultLists.{frame_faults, faults_in}
@@ -20,43 +19,43 @@ use Rattle.rules_surveys.proofs.Calls.{sequence_4}
 use Rattle.fault_list.specs.Asked.{tallied, next_faults}
 use Rattle.fault_list.proofs.Next.{next_inside}
 
-module _ (k : ℕ) (s : SystemNumber) (es : s ≡ system_of k) where
-  known_as : (t : SystemNumber) → s ≡ t → system_of k ≡ t
+module _ (k : ℕ) (s : Option System) (es : s ≡ system_of k) where
+  known_as : (t : Option System) → s ≡ t → system_of k ≡ t
   known_as t e = sym es ∙ e
 
   -- ---- survey
 
   module _ (frame list : List ℕ) (r : Survey) where
-    pub frame_no_system : s ≡ NoSystem → r ≡ refusal 1 → FrameSurveyed k frame list r list
-    frame_no_system e er = survey_stopped _ _ list _ r (survey_1 k (length frame) (known_as NoSystem e)) er
+    pub frame_no_system : s ≡ None → r ≡ refusal 1 → FrameSurveyed k frame list r list
+    frame_no_system e er = survey_stopped _ _ list _ r (survey_1 k (length frame) (known_as None e)) er
 
-    pub frame_wrong_length : (y : System) (n : ℕ) → s ≡ Known y → n ≡ 48000 * sequences_of y → (length frame ≡ n → ⊥) → r ≡ refusal 2 → FrameSurveyed k frame list r list
-    frame_wrong_length y n e en d er = survey_stopped _ _ list _ r (survey_2 k (length frame) y (known_as (Known y) e) (λ z. d (z ∙ sym en))) er
+    pub frame_wrong_length : (y : System) (n : ℕ) → s ≡ Some y → n ≡ 48000 * sequences_of y → (length frame ≡ n → ⊥) → r ≡ refusal 2 → FrameSurveyed k frame list r list
+    frame_wrong_length y n e en d er = survey_stopped _ _ list _ r (survey_2 k (length frame) y (known_as (Some y) e) (λ z. d (z ∙ sym en))) er
 
-  pub frame_surveyed : (frame list list' : List ℕ) (y : System) (n t : ℕ) (r : Survey) → s ≡ Known y → n ≡ 48000 * sequences_of y → length frame ≡ n
+  pub frame_surveyed : (frame list list' : List ℕ) (y : System) (n t : ℕ) (r : Survey) → s ≡ Some y → n ≡ 48000 * sequences_of y → length frame ≡ n
       → Noted list 0 (frame_faults y frame) list' t → r ≡ tallied t (length list) → FrameSurveyed k frame list r list'
   frame_surveyed frame list list' y n t r e en el nt er =
-      let known = known_as (Known y) e in
+      let known = known_as (Some y) e in
       let all : frame_faults y frame ≡ faults_in (system_of k) frame = rw known refl in
       rw er (survey_done _ _ list list' t _ (survey_0 k (length frame) y known (el ∙ en)) (rw all at nt) refl)
 
   -- ---- survey_sequence: o is the code's `out`
 
   module _ (h q : ℕ) (part list : List ℕ) (r : Survey) where
-    pub sequence_no_system : s ≡ NoSystem → r ≡ refusal 1 → SequenceSurveyed k h q part list r list
-    sequence_no_system e er = survey_stopped _ _ list _ r (sequence_1 k h q (length part) (known_as NoSystem e)) er
+    pub sequence_no_system : s ≡ None → r ≡ refusal 1 → SequenceSurveyed k h q part list r list
+    sequence_no_system e er = survey_stopped _ _ list _ r (sequence_1 k h q (length part) (known_as None e)) er
 
-    module _ (y : System) (e : s ≡ Known y) (o : Bool) (eo : o ≡ outside_sequences (Known y) h q) where
+    module _ (y : System) (e : s ≡ Some y) (o : Bool) (eo : o ≡ outside_sequences (Some y) h q) where
       pub sequence_outside : o ≡ true → r ≡ refusal 3 → SequenceSurveyed k h q part list r list
-      sequence_outside t er = survey_stopped _ _ list _ r (sequence_3 k h q (length part) y (known_as (Known y) e) (sym eo ∙ t)) er
+      sequence_outside t er = survey_stopped _ _ list _ r (sequence_3 k h q (length part) y (known_as (Some y) e) (sym eo ∙ t)) er
 
       module _ (f : o ≡ false) where
         pub sequence_wrong_length : not (eqb (length part) 12000) ≡ true → r ≡ refusal 4 → SequenceSurveyed k h q part list r list
-        sequence_wrong_length d er = survey_stopped _ _ list _ r (sequence_4 k h q (length part) y (known_as (Known y) e) (sym eo ∙ f) (eqb-false _ _ (not-true _ d))) er
+        sequence_wrong_length d er = survey_stopped _ _ list _ r (sequence_4 k h q (length part) y (known_as (Some y) e) (sym eo ∙ f) (eqb-false _ _ (not-true _ d))) er
 
         pub sequence_surveyed : (list' : List ℕ) (t : ℕ) → not (eqb (length part) 12000) ≡ false → Noted list 0 (next_faults y h q part 0) list' t → r ≡ tallied t (length list)
             → SequenceSurveyed k h q part list r list'
         sequence_surveyed list' t el nt er =
             let whole = eqb-true _ _ (not-false _ el) in
             let i = inside_means y h q (sym eo ∙ f) in
-            rw er (survey_done _ _ list list' t _ (sequence_0 k h q (length part) y (known_as (Known y) e) (sym eo ∙ f) whole) (rw (next_inside y h q part 0 i.0 i.1 whole (omega arith)) at nt) refl)
+            rw er (survey_done _ _ list list' t _ (sequence_0 k h q (length part) y (known_as (Some y) e) (sym eo ∙ f) whole) (rw (next_inside y h q part 0 i.0 i.1 whole (omega arith)) at nt) refl)

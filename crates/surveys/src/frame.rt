@@ -7,7 +7,7 @@ ghost use Rattle.rules_surveys.specs.Survey.{FrameSurveyed};
 ghost use Rattle.surveys.specs.Asked.{ChannelAsked};
 
 use layout::{CHANNELS, SEQUENCE};
-use paper::{Survey, System, SystemNumber};
+use paper::{Survey, System};
 
 // The survey of one DIF channel, which starts at `from`.
 fn survey_channel(frame: &[u8], y: System, h: u32, from: usize, list: &mut [u32], t: u32) -> u32
@@ -46,7 +46,7 @@ fn survey_all(frame: &[u8], y: System, list: &mut [u32]) -> u32
 pub fn survey(system: u32, frame: &[u8], list: &mut [u32]) -> Survey
     ensures { FrameSurveyed system frame.now list.old result list.new }
 {
-    let SystemNumber::Known(y) = layout::system_of(system) else {
+    let Some(y) = layout::system_of(system) else {
         return fault_list::refused(1);
     };
     if frame.len() != layout::frame_bytes(y) {

@@ -2,7 +2,7 @@
 ghost use Rattle.rules_surveys.specs.Survey.{SequenceSurveyed};
 
 use layout::SEQUENCE;
-use paper::{Survey, SystemNumber};
+use paper::Survey;
 
 // The survey of one sequence. Refusals: 1, 3, 4.
 pub fn survey_sequence(
@@ -14,7 +14,7 @@ pub fn survey_sequence(
 ) -> Survey
     ensures { SequenceSurveyed system channel sequence part.now list.old result list.new }
 {
-    let SystemNumber::Known(y) = layout::system_of(system) else {
+    let Some(y) = layout::system_of(system) else {
         return fault_list::refused(1);
     };
     let out = faults::outside(y, channel, sequence);

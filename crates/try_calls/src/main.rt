@@ -4,7 +4,7 @@
 
 ghost use Rattle.std.specs.Prelude.{◌≤◌};
 
-use paper::{BlockId, BlockNumber, IdAnswer, Place, Section, System, SystemNumber};
+use paper::{BlockId, BlockNumber, IdAnswer, Place, Section, System};
 use try_kit::{lines, values};
 
 // The numbers of a system: sequences, positions, counts, macroblocks, rate, STYPE and the frame's thousands of bytes.
@@ -12,8 +12,8 @@ fn system(number: u32) {
     lines::start(b"system");
     lines::field(number);
     match layout::system_of(number) {
-        SystemNumber::Known(y) => numbers(y),
-        SystemNumber::NoSystem => lines::end(),
+        Some(y) => numbers(y),
+        None => lines::end(),
     }
 }
 

@@ -2,7 +2,7 @@
 // V number; where the slot carries a macroblock, h, i, j and k of its CM, and 1 if that macroblock lies in this slot.
 #![tactic(auto)]
 
-use paper::{BlockNumber, Carried, Carrier, System};
+use paper::{BlockNumber, System};
 use try_kit::lines;
 
 // CM h,i,j,k of a number, in ten rows and in eleven. The edge unit is row 11 of DIF channel 0.
@@ -39,14 +39,14 @@ fn cm(y: System, b: u32) {
 // 1 if macroblock b lies in this slot.
 fn lies(y: System, b: u32, h: u32, q: u32, v: u32) -> u32 {
     match picture::carrier(y, b) {
-        Carrier::In(s) => {
+        Some(s) => {
             if (s.channel == h) & (s.sequence == q) & (s.video.0 == v) {
                 1
             } else {
                 0
             }
         }
-        Carrier::NoSlot => 0,
+        None => 0,
     }
 }
 
@@ -66,11 +66,11 @@ fn row(table: &[u8], y: System, h: u32, q: u32, v: u32) {
     lines::field(q);
     lines::field(v);
     match picture::carried(y, h, q, BlockNumber(v)) {
-        Carried::Macroblock(b) => {
+        Some(b) => {
             cm(y, b);
             lines::field(lies(y, b, h, q, v));
         }
-        Carried::Nothing => {}
+        None => {}
     }
     lines::end();
 }

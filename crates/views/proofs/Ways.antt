@@ -1,4 +1,5 @@
 -- What a start is, and the ways out of the public calls. s is what the code's `system_of` answers, n the frame's bytes. Assumes nothing.
+use Rattle.std.specs.Prelude.{Option, Some, None}
 use mathlib.Core.Path.{◌≡◌, refl, sym, ◌∙◌}
 use mathlib.Core.List.{List}
 use mathlib.Core.Bool.{Bool, true, false, not, ◌||◌}
@@ -12,8 +13,6 @@ use Rattle.base.proofs.Picks.{neither}
 use Rattle.paper.specs.declared.System.{System}
 use Rattle.paper.specs.declared.Place.{Place}
 use Rattle.paper.specs.declared.Part.{Part}
-use Rattle.paper.specs.declared.SystemNumber.TheVariants.{Known, NoSystem}
-use Rattle.paper.specs.declared.SystemNumber.{SystemNumber}
 use Rattle.rules_format.specs.Systems.{sequences_of, system_of}
 use Rattle.rules_format.specs.Places.{place}
 use Rattle.rules_format.specs.Blocks.{block_at, no_part}
@@ -38,12 +37,12 @@ start_is y h q p n i e =
 
 -- ---- view_at: r is what is answered
 
-module _ (k : ℕ) (frame : List ℕ) (h q : ℕ) (p : Place) (s : SystemNumber) (es : s ≡ system_of k) where
-  pub view_no_system : s ≡ NoSystem → (r : Part) → r ≡ no_part 1 → ViewLies k frame h q p r
+module _ (k : ℕ) (frame : List ℕ) (h q : ℕ) (p : Place) (s : Option System) (es : s ≡ system_of k) where
+  pub view_no_system : s ≡ None → (r : Part) → r ≡ no_part 1 → ViewLies k frame h q p r
   view_no_system e = view_lies_stopped k frame h q p 1 (sym (view_1 k frame h q p (sym es ∙ e))) (λ z. omega arith)
 
-  module _ (y : System) (e : s ≡ Known y) (n : ℕ) (en : n ≡ 48000 * sequences_of y) where
-    known : system_of k ≡ Known y
+  module _ (y : System) (e : s ≡ Some y) (n : ℕ) (en : n ≡ 48000 * sequences_of y) where
+    known : system_of k ≡ Some y
     known = sym es ∙ e
 
     pub view_wrong_length : not (eqb (length frame) n) ≡ true → (r : Part) → r ≡ no_part 2 → ViewLies k frame h q p r
@@ -57,7 +56,7 @@ module _ (k : ℕ) (frame : List ℕ) (h q : ℕ) (p : Place) (s : SystemNumber)
       pub view_within : (at : ℕ) → StartIs y h q p.0 at → at + 80 ≤ length frame
       view_within at st = omega (arith, st.within, whole)
 
-      module _ (o : Bool) (eo : o ≡ outside_sequences (Known y) h q) where
+      module _ (o : Bool) (eo : o ≡ outside_sequences (Some y) h q) where
         pub view_outside : (o || leb 150 p.0) ≡ true → (r : Part) → r ≡ no_part 3 → ViewLies k frame h q p r
         view_outside t = view_lies_stopped k frame h q p 3 (sym (view_3 k frame h q p y known whole (rw eo at t))) (λ z. omega arith)
 
@@ -73,7 +72,7 @@ module _ (k : ℕ) (frame : List ℕ) (h q : ℕ) (p : Place) (s : SystemNumber)
           view_found z = rw st.is (view_lies_found k frame h q p y known (sym number ∙ z))
 
 -- a place that is not outside is in the frame
-pub view_in : (y : System) (h q : ℕ) (p : Place) (o : Bool) → o ≡ outside_sequences (Known y) h q → (o || leb 150 p.0) ≡ false → InFrame y h q p.0
+pub view_in : (y : System) (h q : ℕ) (p : Place) (o : Bool) → o ≡ outside_sequences (Some y) h q → (o || leb 150 p.0) ≡ false → InFrame y h q p.0
 view_in y h q p o eo f =
     let both = neither o (leb 150 p.0) f in
     let i = inside_means y h q (sym eo ∙ both.0) in

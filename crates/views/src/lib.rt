@@ -5,7 +5,7 @@ ghost use Rattle.rules_surveys.specs.View.{ViewLies, ViewNumbered, Viewed};
 ghost use Rattle.views.specs.Asked.{InFrame, StartIs};
 
 use layout::{BLOCK, PLACES};
-use paper::{Part, Place, System, SystemNumber};
+use paper::{Part, Place, System};
 
 // Where a block starts.
 fn block_start(y: System, h: u32, q: u32, p: Place) -> usize
@@ -21,7 +21,7 @@ fn block_start(y: System, h: u32, q: u32, p: Place) -> usize
 pub fn view_at(system: u32, frame: &[u8], channel: u32, sequence: u32, place: Place) -> Part
     ensures { ViewLies system frame.now channel sequence place result }
 {
-    let SystemNumber::Known(y) = layout::system_of(system) else {
+    let Some(y) = layout::system_of(system) else {
         return layout::no_part(1);
     };
     let p = place.0;

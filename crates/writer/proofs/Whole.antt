@@ -1,4 +1,5 @@
 -- Each way out of the writers of a sequence, a DIF channel and the frame, and of the call. Assumes nothing.
+use Rattle.std.specs.Prelude.{Option, Some, None}
 use mathlib.Core.Path.{◌≡◌, refl, sym, ap, ap₂, ◌∙◌, subst}
 use mathlib.Core.Bool.{Bool, true}
 use mathlib.Core.List.{List, ◌++◌, append-nil, append_assoc}
@@ -20,8 +21,6 @@ use Rattle.base.proofs.Runs.{end_within, run_same, run_split, run_runs, length_r
 use Rattle.base.proofs.Filling.{Filled, filled_none, filled_next, filled_end}
 use Rattle.base.proofs.Parts.{length_part, range_part, none_left}
 use Rattle.paper.specs.declared.System.{System}
-use Rattle.paper.specs.declared.SystemNumber.{SystemNumber}
-use Rattle.paper.specs.declared.SystemNumber.TheVariants.{Known, NoSystem}
 use Rattle.paper.specs.declared.Section.{Section}
 use Rattle.paper.specs.declared.Section.TheVariants.{Header, Subcode, Vaux, Audio, Video}
 use Rattle.paper.specs.declared.Place.{Place}
@@ -431,7 +430,7 @@ module _ (y : System) (h n : ℕ) (en : n ≡ sequences_of y) where
 -- ---- the call
 
 -- what is in order has the lengths that the writers ask
-pub frame_asked : (k n : ℕ) (y : System) (r : SystemNumber) (count : ℕ) (sound : List ℤ) (macroblocks time group frame : List ℕ) → r ≡ system_of k → r ≡ Known y
+pub frame_asked : (k n : ℕ) (y : System) (r : Option System) (count : ℕ) (sound : List ℤ) (macroblocks time group frame : List ℕ) → r ≡ system_of k → r ≡ Some y
     → n ≡ write_number k (contents_of count sound macroblocks time group) (length frame) → n ≡ 0 → FrameAsked frame y count sound macroblocks
 frame_asked k n y r count sound macroblocks time group frame er ey en z =
     let t = taken_takes k (contents_of count sound macroblocks time group) (length frame) y (sym er ∙ ey) (sym en ∙ z) in
@@ -441,12 +440,12 @@ frame_asked k n y r count sound macroblocks time group frame er ey en z =
 pub number_stops : (k n : ℕ) (l : Contents) (frame : List ℕ) → n ≡ write_number k l (length frame) → 0 < n → Wrote k l frame n frame
 number_stops k n l frame en some = write_stopped k l frame n en (λ z. omega arith)
 
-pub no_system : (k n : ℕ) (l : Contents) (frame : List ℕ) (r : SystemNumber) → r ≡ system_of k → r ≡ NoSystem → n ≡ write_number k l (length frame) → Wrote k l frame n frame
+pub no_system : (k n : ℕ) (l : Contents) (frame : List ℕ) (r : Option System) → r ≡ system_of k → r ≡ None → n ≡ write_number k l (length frame) → Wrote k l frame n frame
 no_system k n l frame r er e en =
     let one : 1 ≡ write_number k l (length frame) = write_1 k l (length frame) (sym er ∙ e) in
     number_stops k n l frame en (omega arith)
 
-pub frame_left : (k n : ℕ) (y : System) (r : SystemNumber) (l : Contents) (frame frame' : List ℕ) (repeated : Repeated) → r ≡ system_of k → r ≡ Known y → n ≡ write_number k l (length frame) → n ≡ 0
+pub frame_left : (k n : ℕ) (y : System) (r : Option System) (l : Contents) (frame frame' : List ℕ) (repeated : Repeated) → r ≡ system_of k → r ≡ Some y → n ≡ write_number k l (length frame) → n ≡ 0
     → repeated ≡ repeated_of y l.time_code l.binary_group → frame' ≡ run (written_channel y (material_of repeated l.count l.sound l.macroblocks)) 4 → Wrote k l frame 0 frame'
 unfolding written_frame
 frame_left k n y r l frame frame' repeated er ey en z ep e = write_done k y l frame frame' n (sym er ∙ ey) en z (e ∙ rw ep refl)

@@ -2,7 +2,6 @@
 ghost use Rattle.rules_writes.specs.Write.{contents_of, Wrote};
 
 use crate::frame;
-use paper::SystemNumber;
 
 // Writes a frame. Refusals: 1, 2, 3, 4, 31, 32; a refusal writes nothing.
 pub fn write_frame(
@@ -28,7 +27,7 @@ pub fn write_frame(
     if number != 0 {
         return number;
     }
-    let SystemNumber::Known(y) = layout::system_of(system) else {
+    let Some(y) = layout::system_of(system) else {
         return number;
     };
     let repeated = packs::repeated(y, time_code, binary_group);

@@ -3,11 +3,11 @@ use borrow.Author.Rules.{rules}
 use Rattle.blocks.proofs.Ways.{macroblock_within, macroblock_done, empty_done}
 use Rattle.blocks.proofs.video.write_video.Goals as goal
 
-pub slice_bounds-copy_macroblock-end-in-Macroblock : goal.slice_bounds-copy_macroblock-end-in-Macroblock
-slice_bounds-copy_macroblock-end-in-Macroblock c = search (macroblock_within, rules)
+pub slice_bounds-copy_macroblock-end-in-Some : goal.slice_bounds-copy_macroblock-end-in-Some
+slice_bounds-copy_macroblock-end-in-Some c = search (macroblock_within, rules)
 
-pub returns-in-Macroblock : goal.returns-in-Macroblock
-returns-in-Macroblock c = search (macroblock_done, rules)
+pub returns-in-Some : goal.returns-in-Some
+returns-in-Some c = search (macroblock_done, rules)
 
-pub returns-in-Nothing : goal.returns-in-Nothing
-returns-in-Nothing c = search (empty_done, rules)
+pub returns-in-None : goal.returns-in-None
+returns-in-None c = search (empty_done, rules)

@@ -1,4 +1,5 @@
 -- `sound::samples::sample_in` meets its contract: no sample, lost, or a level of 16 bits. Assumes nothing.
+use Rattle.std.specs.Prelude.{Some, None}
 use mathlib.Core.Path.{◌≡◌, refl, sym, ◌∙◌}
 use mathlib.Core.Bool.{Bool, true, false}
 use Prim.Native.Nat.{◌<◌, ◌≤◌, ◌^◌}
@@ -11,7 +12,6 @@ use mir.ValLaws.{to_z-of_z}
 use borrow.Author.Tests.{leb-true, lt-leb}
 use Rattle.base.specs.Pick.{pick}
 use Rattle.base.proofs.Picks.{both_held}
-use Rattle.paper.specs.declared.SampleNumber.TheVariants.{Sampled, NoSample}
 use Rattle.paper.specs.declared.Sample.TheVariants.{Level, Lost}
 use Rattle.rules_format.specs.Samples.{in_range, sample_in}
 use Rattle.sound.proofs.Signed.{of_bits}
@@ -19,11 +19,11 @@ use Rattle.sound.proofs.samples.sample_in.Goals as goal
 use Rattle.sound.proofs.samples.sample_in.Goals.{Else-x-eq32768}
 
 -- the three answers, over any number
-none : (z : ℤ) → in_range z ≡ false → NoSample ≡ sample_in z
+none : (z : ℤ) → in_range z ≡ false → None ≡ sample_in z
 unfolding sample_in pick
 none z e = rw e refl
 
-lost_is : (z : ℤ) → z ≡ pos 32768 → Sampled Lost ≡ sample_in z
+lost_is : (z : ℤ) → z ≡ pos 32768 → Some Lost ≡ sample_in z
 unfolding sample_in in_range pick
 lost_is z e = rw e refl
 
@@ -33,7 +33,7 @@ unfolding in_range
 level_fits (pos n) e ne = let k : n ≤ 32768 = leb-true n 32768 e in record { sfits = omega arith }
 level_fits (negsuc n) e ne = let k : n ≤ 32767 = leb-true n 32767 (both_held (leb n 32767) true e).0 in record { sfits = omega arith }
 
-level_is : (z : ℤ) → in_range z ≡ true → SFits w16 z → Sampled (Level z) ≡ sample_in z
+level_is : (z : ℤ) → in_range z ≡ true → SFits w16 z → Some (Level z) ≡ sample_in z
 unfolding sample_in pick
 level_is (pos n) e f = let k : n < 2 ^ 15 = f.sfits in rw (e, lt-leb 32768 n (omega arith)) refl
 level_is (negsuc n) e f = rw e refl
