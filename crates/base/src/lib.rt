@@ -8,23 +8,19 @@ ghost use Rattle.base.specs.Bytes.{Byte};
 pub fn wide(x: u8) -> u32
     ensures { Byte x result }
 {
-    x as u32
+    u32::from(x)
 }
 
 // A byte of a list, or 0 past its end.
 pub fn byte_at(bytes: &[u8], i: usize) -> u8
     ensures { result ≡ get_or bytes.now i 0 }
 {
-    if i < bytes.len() { bytes[i] } else { 0 }
+    bytes.get(i).copied().unwrap_or(0)
 }
 
 // Every byte of the part is `value`.
 pub fn fill(part: &mut [u8], value: u8)
     ensures { part.new ≡ replicate (length part.old) value }
 {
-    let mut i = 0;
-    while i < part.len() {
-        part[i] = value;
-        i += 1;
-    }
+    part.fill(value);
 }

@@ -26,7 +26,7 @@ use Rattle.rules_format.proofs.Systems.{sequences_le, half_twice}
 use Rattle.rules_format.proofs.Places.{place_in_below, place_for_lem}
 use Rattle.rules_packs.proofs.Vaux.{vs_below}
 use Rattle.rules_packs.proofs.Aaux.{as_below}
-use Rattle.judges.specs.Asked.{sequence_from, Low, Start, PackAsked, FirstInHalf}
+use Rattle.judges.specs.Asked.{sequence_from, Low, InBlock, FirstInHalf}
 
 -- ---- sequences
 
@@ -34,12 +34,12 @@ module _ (y : System) (h q : ℕ) where
   pub start_le : (n : ℕ) → n ≡ sequences_of y → n * h ≤ 12 * h
   start_le n e = mul-le-mul_right h (rw e (sequences_le y))
 
-  pub start_way : (n : ℕ) → n ≡ sequences_of y → h < 4294967296 → q < 4294967296 → Start y h q ((n * h + q) * 12000)
-  start_way n e lh lq = record { is = rw e refl; room = record { low = omega (arith, start_le n e) } }
+  pub start_low : (n : ℕ) → n ≡ sequences_of y → h < 4294967296 → q < 4294967296 → Low ((n * h + q) * 12000)
+  start_low n e lh lq = record { low = omega (arith, start_le n e) }
 
-  pub start_is : (frame : List ℕ) (at : ℕ) → Start y h q at → sequence_from frame at ≡ sequence_at y frame h q
+  pub start_is : (frame : List ℕ) (n : ℕ) → n ≡ sequences_of y → sequence_from frame ((n * h + q) * 12000) ≡ sequence_at y frame h q
   unfolding sequence_from sequence_at
-  start_is frame at s = rw s.is refl
+  start_is frame n e = rw e refl
 
 half_le : (y : System) → half_of y ≤ 6
 half_le y = omega (arith, half_twice y, sequences_le y)
@@ -74,7 +74,7 @@ module _ (frame : List ℕ) (at : ℕ) where
       let part = drop (0 * 80) (sequence_from frame at) in
       sym (get_or-eq_default (take 80 part) 0 (omega (arith, length-take 80 part)))
 
-  module _ (p : Place) (i : ℕ) (asked : PackAsked at p i) where
+  module _ (p : Place) (i : ℕ) (asked : InBlock p i) where
     pack_byte : (j : ℕ) → j < 5 → get_or frame (at + p.0 * 80 + i + j) 0 ≡ get_or (block_in (sequence_from frame at) p.0) (i + j) 0
     pack_byte j h =
         ap (λ (k : ℕ). get_or frame k 0) (add_assoc (at + p.0 * 80) i j)
@@ -99,15 +99,15 @@ module _ (frame : List ℕ) (at : ℕ) where
 there : (s : Section) (k : BlockNumber) (p : Place) → p ≡ place_for s k → k.0 < blocks_of s → p.0 < 150
 there s k p e h = rw (e, place_for_lem s k h) (place_in_below s k.0 h)
 
-module _ (at k : ℕ) (p : Place) (room : Low at) where
-  pub vs_asked : (q : ℕ) → k ≡ vs_at q → p ≡ place_for Vaux (record { 0 = k / 15 }) → PackAsked at p (3 + 5 * (k % 15))
-  vs_asked q e ep = record { room = room; place = there Vaux _ p ep (omega (arith, e, vs_below q)); within = omega arith }
+module _ (k : ℕ) (p : Place) where
+  pub vs_asked : (q : ℕ) → k ≡ vs_at q → p ≡ place_for Vaux (record { 0 = k / 15 }) → InBlock p (3 + 5 * (k % 15))
+  vs_asked q e ep = record { place = there Vaux _ p ep (omega (arith, e, vs_below q)); within = omega arith }
 
-  pub as_asked : (q : ℕ) → k ≡ as_at q → p ≡ place_for Audio (record { 0 = k }) → PackAsked at p 3
-  as_asked q e ep = record { room = room; place = there Audio _ p ep (omega (arith, e, as_below q)); within = omega arith }
+  pub as_asked : (q : ℕ) → k ≡ as_at q → p ≡ place_for Audio (record { 0 = k }) → InBlock p 3
+  as_asked q e ep = record { place = there Audio _ p ep (omega (arith, e, as_below q)); within = omega arith }
 
-  pub ssyb_asked : k < 12 → p ≡ place_for Subcode (record { 0 = k / 6 }) → PackAsked at p (6 + 8 * (k % 6))
-  ssyb_asked h ep = record { room = room; place = there Subcode _ p ep (omega arith); within = omega arith }
+  pub ssyb_asked : k < 12 → p ≡ place_for Subcode (record { 0 = k / 6 }) → InBlock p (6 + 8 * (k % 6))
+  ssyb_asked h ep = record { place = there Subcode _ p ep (omega arith); within = omega arith }
 
 module _ (part : List ℕ) (k : ℕ) (p : Place) (r : Pack) where
   pub vs_way : (q : ℕ) → k ≡ vs_at q → p ≡ place_for Vaux (record { 0 = k / 15 }) → r ≡ pack_in (block_in part p.0) (3 + 5 * (k % 15)) → r ≡ vs_in q part

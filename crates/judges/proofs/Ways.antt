@@ -22,7 +22,9 @@ use Rattle.rules_format.specs.Sound.{dif_of}
 use Rattle.rules_reads.specs.Time.{ssyb_in, time_first, group_first, with_bit6, settled, same_pack, pack_agrees, subcode_agrees}
 use Rattle.judges.specs.declared.Test.{Test}
 use Rattle.judges.specs.declared.Test.TheVariants.{Dsf, Vs, Unflagged, AsKeeps, CountIs, ModeIs, Subcode}
-use Rattle.judges.specs.Asked.{sequence_from, Start, FirstInHalf}
+use Rattle.judges.specs.Asked.{FirstInHalf}
+use Rattle.rules_format.specs.Blocks.{sequence_at}
+use Rattle.paper.specs.declared.SubcodeData.{SubcodeData}
 use Rattle.judges.specs.Tests.{test_of}
 use Rattle.judges.proofs.Places.{start_is}
 
@@ -54,8 +56,8 @@ module _ (y : System) (test : Test) (q : ℕ) (part : List ℕ) (x : Bool) where
   pub as_arm : (c : ℕ) (p : Pack) → test ≡ AsKeeps c → p ≡ as_in q part → x ≡ as_ok y c p → x ≡ test_of y test q part
   as_arm c p e ep ex = ex ∙ rw (ep, e) refl
 
-  pub subcode_arm : (time group : Pack) → test ≡ Subcode time group → x ≡ subcode_agrees y time group q part → x ≡ test_of y test q part
-  subcode_arm time group e ex = ex ∙ rw e refl
+  pub subcode_arm : (said : SubcodeData) → test ≡ Subcode said → x ≡ subcode_agrees y said.time said.group q part → x ≡ test_of y test q part
+  subcode_arm said e ex = ex ∙ rw e refl
 
 pub count_arm : (y : System) (test : Test) (q : ℕ) (part : List ℕ) (count k : ℕ) (p : Pack) → test ≡ CountIs count → p ≡ as_in q part → k ≡ count_in p
     → eqb k count ≡ test_of y test q part
@@ -92,15 +94,15 @@ module _ (y : System) (time group : Pack) (kind : SubcodePack) (k : ℕ) (part :
 
 -- ---- the packs that come first
 
-module _ (y : System) (frame : List ℕ) (at : ℕ) where
-  pub time_way : (p : Pack) → Start y 0 0 at → p ≡ ssyb_in 3 (sequence_from frame at) → p ≡ time_first y frame
+module _ (y : System) (frame part : List ℕ) (p : Pack) where
+  pub time_way : part ≡ sequence_at y frame 0 0 → p ≡ ssyb_in 3 part → p ≡ time_first y frame
   unfolding time_first
-  time_way p s e = e ∙ ap (ssyb_in 3) (start_is y 0 0 frame at s)
+  time_way s e = e ∙ ap (ssyb_in 3) s
 
-  pub group_way : (p : Pack) → Start y 0 0 at → p ≡ ssyb_in 4 (sequence_from frame at) → p ≡ group_first y frame
+  pub group_way : part ≡ sequence_at y frame 0 0 → p ≡ ssyb_in 4 part → p ≡ group_first y frame
   unfolding group_first
-  group_way p s e = e ∙ ap (ssyb_in 4) (start_is y 0 0 frame at s)
+  group_way s e = e ∙ ap (ssyb_in 4) s
 
-  pub as_way : (c h q : ℕ) (p : Pack) → FirstInHalf y c q → h ≡ dif_of c → Start y h q at → p ≡ as_in q (sequence_from frame at) → p ≡ first_as y frame c
+  pub as_way : (c h q : ℕ) → FirstInHalf y c q → h ≡ dif_of c → part ≡ sequence_at y frame h q → p ≡ as_in q part → p ≡ first_as y frame c
   unfolding first_as
-  as_way c h q p eq eh s ep = ep ∙ ap (as_in q) (start_is y h q frame at s) ∙ rw (eh, eq.is) refl
+  as_way c h q eq eh s ep = ep ∙ ap (as_in q) s ∙ rw (eh, eq.is) refl

@@ -13,19 +13,10 @@ sequence_from frame at = take 12000 (drop at frame)
 pub record Low (at : ℕ) : Type 0 where
   pub low : at < 1000000000000000
 
--- r is where sequence q of DIF channel h starts
-pub record Start (y : System) (h q r : ℕ) : Type 0 where
-  pub is : r ≡ (sequences_of y * h + q) * 12000
-  pub room : Low r
-
-pub record PackAsked (at : ℕ) (p : Place) (i : ℕ) : Type 0 where
-  pub room : Low at
+-- a pack from byte i on lies in the block at place p
+pub record InBlock (p : Place) (i : ℕ) : Type 0 where
   pub place : p.0 < 150
   pub within : i + 5 ≤ 80
-
-pub record SsybAsked (at k : ℕ) : Type 0 where
-  pub room : Low at
-  pub below : k < 12
 
 -- r is the first sequence of an audio channel's half
 pub record FirstInHalf (y : System) (c r : ℕ) : Type 0 where

@@ -14,4 +14,4 @@ test_of y (Unflagged k) = unflagged k
 test_of y (AsKeeps c) = as_keeps y c
 test_of y (CountIs count) = count_is count
 test_of y (ModeIs mode) = mode_is mode
-test_of y (Subcode time group) = subcode_agrees y time group
+test_of y (Subcode said) = subcode_agrees y said.time said.group

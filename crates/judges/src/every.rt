@@ -6,7 +6,8 @@ ghost use Rattle.rules_reads.specs.Audio.{every_in_half, first_as};
 ghost use Rattle.judges.specs.Asked.{FirstInHalf, SequencesAsked};
 ghost use Rattle.judges.specs.Tests.{test_of};
 
-use crate::{Test, read, sequence};
+use crate::Test;
+use crate::read::Sequence;
 use layout::CHANNELS;
 use paper::{Pack, System};
 
@@ -30,11 +31,8 @@ fn every_from(y: System, frame: &[u8], test: Test, h: u32, q: u32, k: u32) -> bo
     ensures { result ≡ every_from y frame.now h q k (test_of y test) }
 {
     let mut good = true;
-    let mut r: u32 = 0;
-    while r < k {
-        let at = read::start(y, h, q + r);
-        good = sequence::passes(y, frame, at, q + r, test) & good;
-        r += 1;
+    for r in 0..k {
+        good = Sequence::of(y, frame, h, q + r).passes(test) & good;
     }
     good
 }
@@ -44,10 +42,8 @@ pub fn every_sequence(y: System, frame: &[u8], test: Test) -> bool
     ensures { result ≡ every_sequence y frame.now (test_of y test) }
 {
     let mut good = true;
-    let mut h: u32 = 0;
-    while h < CHANNELS {
+    for h in 0..CHANNELS {
         good = every_from(y, frame, test, h, 0, layout::sequences(y)) & good;
-        h += 1;
     }
     good
 }
@@ -65,6 +61,5 @@ pub fn first_as(y: System, frame: &[u8], audio: u32) -> Pack
     ensures { result ≡ first_as y frame.now audio }
 {
     let first = first_in_half(y, audio);
-    let at = read::start(y, dif(audio), first);
-    read::as_in(frame, at, first)
+    Sequence::of(y, frame, dif(audio), first).source()
 }

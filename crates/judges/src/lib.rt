@@ -7,10 +7,10 @@ mod sequence;
 mod subcode;
 
 pub use every::{every_in_half, every_sequence, first_as};
-use paper::Pack;
+use paper::SubcodeData;
 pub use subcode::{group_first, settled, time_first};
 
-// What is asked of a sequence: a flag by its number, an audio channel, a count, a mode, the time code and the binary group.
+// What is asked of a sequence: a flag by its number, an audio channel, a count, a mode, what the subcode says.
 #[derive(Clone, Copy)]
 pub enum Test {
     Dsf,
@@ -19,5 +19,5 @@ pub enum Test {
     AsKeeps(u32),
     CountIs(u32),
     ModeIs(u32),
-    Subcode(Pack, Pack),
+    Subcode(SubcodeData),
 }

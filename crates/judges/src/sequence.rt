@@ -1,54 +1,50 @@
-// What is asked of one sequence, its number q, from byte `at` of the frame on.
+// What is asked of one sequence.
 ghost use Rattle.std.specs.Prelude.{◌≡◌};
 ghost use Rattle.rules_packs.specs.Header.{flagged};
 ghost use Rattle.rules_reads.specs.Check.{header_in, dsf_agrees, vs_agrees};
-ghost use Rattle.judges.specs.Asked.{sequence_from, Low};
+ghost use Rattle.judges.specs.Asked.{sequence_from};
 ghost use Rattle.judges.specs.Tests.{test_of};
 
-use crate::{Test, read, subcode};
-use paper::System;
+use crate::Test;
+use crate::read::Sequence;
 
-// The header sets TF1, TF2 or TF3, by its number.
-fn is_flagged(frame: &[u8], at: usize, k: u32) -> bool
-    requires { Low at }
-    ensures { result ≡ flagged k (header_in (sequence_from frame.now at)) }
-{
-    let byte = read::header_byte(frame, at, 4 + k as usize);
-    byte / 128 == 1
-}
+impl Sequence<'_> {
+    // The header sets TF1, TF2 or TF3, by its number.
+    fn is_flagged(&self, k: u32) -> bool
+        ensures { result ≡ flagged k (header_in (sequence_from self.now.frame.now self.now.start)) }
+    {
+        self.header_byte(4 + k as usize) / 128 == 1
+    }
 
-// The header's DSF agrees (21).
-fn dsf_agrees(y: System, frame: &[u8], at: usize, q: u32) -> bool
-    requires { Low at }
-    ensures { result ≡ dsf_agrees y q (sequence_from frame.now at) }
-{
-    let byte = base::wide(read::header_byte(frame, at, 3));
-    let rate = layout::rate(y);
-    byte / 128 == rate
-}
+    // The header's DSF agrees (21).
+    fn dsf_agrees(&self) -> bool
+        ensures { result ≡ dsf_agrees self.now.system self.now.number (sequence_from self.now.frame.now self.now.start) }
+    {
+        let byte = u32::from(self.header_byte(3));
+        byte / 128 == layout::rate(self.system)
+    }
 
-// The VS agrees, where the header's TF2 is 0 (22).
-fn vs_agrees(y: System, frame: &[u8], at: usize, q: u32) -> bool
-    requires { Low at }
-    ensures { result ≡ vs_agrees y q (sequence_from frame.now at) }
-{
-    let not_judged = is_flagged(frame, at, 2);
-    let good = packs::vs_ok(y, read::vs_in(frame, at, q));
-    not_judged | good
-}
+    // The VS agrees, where the header's TF2 is 0 (22).
+    fn vs_agrees(&self) -> bool
+        ensures { result ≡ vs_agrees self.now.system self.now.number (sequence_from self.now.frame.now self.now.start) }
+    {
+        let not_judged = self.is_flagged(2);
+        let good = packs::vs_ok(self.system, self.vs());
+        not_judged | good
+    }
 
-// The sequence passes the test.
-pub(crate) fn passes(y: System, frame: &[u8], at: usize, q: u32, test: Test) -> bool
-    requires { Low at }
-    ensures { result ≡ test_of y test q (sequence_from frame.now at) }
-{
-    match test {
-        Test::Dsf => dsf_agrees(y, frame, at, q),
-        Test::Vs => vs_agrees(y, frame, at, q),
-        Test::Unflagged(k) => !is_flagged(frame, at, k),
-        Test::AsKeeps(c) => packs::as_ok(y, c, read::as_in(frame, at, q)),
-        Test::CountIs(count) => packs::count_in(read::as_in(frame, at, q)) == count,
-        Test::ModeIs(mode) => packs::mode_in(read::as_in(frame, at, q)) == mode,
-        Test::Subcode(time, group) => subcode::subcode_agrees(y, frame, at, q, time, group),
+    // The sequence passes the test.
+    pub(crate) fn passes(&self, test: Test) -> bool
+        ensures { result ≡ test_of self.now.system test self.now.number (sequence_from self.now.frame.now self.now.start) }
+    {
+        match test {
+            Test::Dsf => self.dsf_agrees(),
+            Test::Vs => self.vs_agrees(),
+            Test::Unflagged(k) => !self.is_flagged(k),
+            Test::AsKeeps(c) => packs::as_ok(self.system, c, self.source()),
+            Test::CountIs(count) => packs::count_in(self.source()) == count,
+            Test::ModeIs(mode) => packs::mode_in(self.source()) == mode,
+            Test::Subcode(said) => self.subcode_agrees(said),
+        }
     }
 }

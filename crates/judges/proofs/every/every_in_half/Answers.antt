@@ -1,5 +1,5 @@
 -- `judges::every::every_in_half` meets its contract: by the channel's half. Assumes nothing.
-use borrow.Author.Rules.{rules}
+use Rattle.std.proofs.Common.{rules}
 use Rattle.judges.proofs.Turns.{half_asked, half_done}
 use Rattle.judges.proofs.every.every_in_half.Goals as goal
 

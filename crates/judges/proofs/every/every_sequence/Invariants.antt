@@ -1,11 +1,7 @@
-use mathlib.Core.Path.{◌≡◌}
-use Prim.Native.Nat.{◌-◌, ◌≤◌}
+use Rattle.std.proofs.Common.{◌≡◌}
 use Rattle.base.specs.Below.{below}
 use Rattle.judges.proofs.Turns.{every_in}
 use Rattle.judges.proofs.every.every_sequence.Given as goal
 
 abbrev pub invariant-loop-h : goal.invariant-loop-h
-invariant-loop-h l = (l.good ≡ below (every_in l.y l.frame l.test) l.h) × (l.h ≤ 4)
-
-abbrev pub decreases-loop-h : goal.decreases-loop-h
-decreases-loop-h l = 4 - l.h
+invariant-loop-h l = l.good ≡ below (every_in l.y l.frame l.test) l.h

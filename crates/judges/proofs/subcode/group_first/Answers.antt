@@ -1,5 +1,5 @@
--- `judges::subcode::group_first` meets its contract: the frame starts with channel 0, sequence 0. Assumes nothing.
-use borrow.Author.Rules.{rules}
+-- `judges::subcode::group_first` meets its contract: the frame starts with DIF channel 0, sequence 0. Assumes nothing.
+use Rattle.std.proofs.Common.{rules}
 use Rattle.judges.proofs.Ways.{group_way}
 use Rattle.judges.proofs.subcode.group_first.Goals as goal
 

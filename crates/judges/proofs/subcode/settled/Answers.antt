@@ -1,5 +1,5 @@
 -- `judges::subcode::settled` meets its contract: one lemma for each rate. Assumes nothing.
-use borrow.Author.Rules.{rules}
+use Rattle.std.proofs.Common.{rules}
 use Rattle.judges.proofs.Ways.{settled_50, settled_60}
 use Rattle.judges.proofs.subcode.settled.Goals as goal
 
