@@ -24,9 +24,9 @@ pub fn read_id(id: &[u8]) -> IdAnswer
     if id.len() != 3 {
         return IdAnswer::WrongLength;
     }
-    let byte0 = base::wide(id[0]);
-    let byte1 = base::wide(id[1]);
-    let byte2 = base::wide(id[2]);
+    let byte0 = u32::from(id[0]);
+    let byte1 = u32::from(id[1]);
+    let byte2 = u32::from(id[2]);
     if byte0 / 32 < 5 {
         let named = BlockId {
             section: places::section_of(byte0 / 32),
@@ -37,7 +37,7 @@ pub fn read_id(id: &[u8]) -> IdAnswer
         let reserved = byte0 / 16 % 2 * 4 + byte1 % 4;
         let spare = Spare {
             arbitrary: byte0 % 16,
-            reserved: reserved,
+            reserved,
         };
         return IdAnswer::Named(named, spare);
     }

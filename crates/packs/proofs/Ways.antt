@@ -4,7 +4,6 @@ use mathlib.Core.Bool.{Bool, true, false, ◌&&◌, ◌||◌}
 use mathlib.Core.List.{List}
 use Prim.Native.Nat.{ℕ, ◌+◌, ◌*◌, ◌/◌, ◌%◌}
 use lib.Dec.{eqb, ltb}
-use Rattle.base.specs.Bytes.{Byte}
 use Rattle.paper.specs.declared.System.{System}
 use Rattle.paper.specs.declared.Pack.{Pack}
 use Rattle.paper.specs.declared.SubcodePack.TheVariants.{NoPack}
@@ -28,13 +27,13 @@ pub taken_way : (y : System) (p : Pack) (rate : ℕ) (clock : Bool) → rate ≡
 unfolding time_taken
 taken_way y p rate clock er ec = rw (er, ec) refl
 
-pub vs_judged : (y : System) (p : Pack) (pc3 rate stype : ℕ) → Byte p.pc3 pc3 → rate ≡ rate_of y → stype ≡ stype_of y
+pub vs_judged : (y : System) (p : Pack) (pc3 rate stype : ℕ) → pc3 ≡ p.pc3 → rate ≡ rate_of y → stype ≡ stype_of y
     → (eqb p.pc0 0x60 && (eqb (pc3 / 32 % 2) rate && eqb (pc3 % 32) stype)) ≡ vs_ok y p
-vs_judged y p pc3 rate stype b er es = rw (b.is, er, es) refl
+vs_judged y p pc3 rate stype b er es = rw (b, er, es) refl
 
-pub as_judged : (y : System) (c : ℕ) (p : Pack) (count rate mode pc3 : ℕ) (own said : Bool) → count ≡ count_in p → own ≡ is_count y count → rate ≡ rate_of y → mode ≡ mode_in p → said ≡ mode_ok c mode → Byte p.pc3 pc3
+pub as_judged : (y : System) (c : ℕ) (p : Pack) (count rate mode pc3 : ℕ) (own said : Bool) → count ≡ count_in p → own ≡ is_count y count → rate ≡ rate_of y → mode ≡ mode_in p → said ≡ mode_ok c mode → pc3 ≡ p.pc3
     → (eqb p.pc0 0x50 && (ltb p.pc1 128 && (own && (ltb p.pc2 32 && (said && (eqb (pc3 / 32 % 2) rate && (eqb (pc3 % 32) 3 && eqb (p.pc4 % 64) 0))))))) ≡ as_ok y c p
-as_judged y c p count rate mode pc3 own said ec eo er em es b3 = rw (eo, ec, er, es, em, b3.is) refl
+as_judged y c p count rate mode pc3 own said ec eo er em es b3 = rw (eo, ec, er, es, em, b3) refl
 
 pub mode_judged : (c mode own : ℕ) (mark : Bool) → own ≡ mode_of c → mark ≡ is_mark mode → (eqb mode own || mark) ≡ mode_ok c mode
 mode_judged c mode own mark eo em = rw (eo, em) refl

@@ -69,7 +69,7 @@ pub fn count_in(p: Pack) -> u32
 pub fn mode_in(p: Pack) -> u32
     ensures { result ≡ mode_in p }
 {
-    base::wide(p.pc2) % 16
+    u32::from(p.pc2) % 16
 }
 
 // 1111, invalid audio data: the mark of an unrecorded channel.
@@ -94,7 +94,7 @@ pub fn as_ok(y: System, c: u32, p: Pack) -> bool
     let own = layout::is_count(y, count);
     let rate = layout::rate(y);
     let mode = mode_ok(c, mode_in(p));
-    let pc3 = base::wide(p.pc3);
+    let pc3 = u32::from(p.pc3);
     (p.pc0 == 0x50)
         & ((p.pc1 < 128)
             & (own

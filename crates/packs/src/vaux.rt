@@ -39,7 +39,7 @@ pub fn vaux_pack(vs: Pack, vsc: Pack, q: u32, k: u32) -> Pack
 pub fn vs_ok(y: System, p: Pack) -> bool
     ensures { result ≡ vs_ok y p }
 {
-    let pc3 = base::wide(p.pc3);
+    let pc3 = u32::from(p.pc3);
     let rate = layout::rate(y);
     let stype = layout::stype(y);
     (p.pc0 == 0x60) & ((pc3 / 32 % 2 == rate) & (pc3 % 32 == stype))
