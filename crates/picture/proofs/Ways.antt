@@ -2,13 +2,14 @@
 use Rattle.std.specs.Prelude.{Option, Some, None}
 use mathlib.Core.Path.{◌≡◌, refl, sym, ap, ◌∙◌}
 use mathlib.Core.Bool.{Bool, true, false}
+use mathlib.Core.Logic.{◌⊎◌, inl, inr}
 use Prim.Native.Nat.{ℕ, ◌<◌, ◌≤◌, ◌+◌, ◌-◌, ◌*◌, ◌/◌, ◌%◌}
 use borrow.Author.Tests.{lt-ltb, le-ltb, ne_eqb}
 use Rattle.base.specs.Pick.{pick}
 use Rattle.base.proofs.Picks.{pick_true, pick_false}
 use Rattle.paper.specs.declared.System.{System}
 use Rattle.paper.specs.declared.Slot.{Slot}
-use Rattle.rules_picture.specs.Picture.{slot, step_of, column_of, macroblock, edge_number, ten_carries, eleven_carries, within, carries_of, carried_in, unit_at}
+use Rattle.rules_picture.specs.Picture.{step_of, column_of, macroblock, edge_number, ten_carries, eleven_carries, within, carries_of, carried_in, unit_at}
 use Rattle.rules_picture.specs.Picture.{slot_at, ten_turn, edge_slot, ten_found, eleven_found, carrier_of}
 use Rattle.picture.specs.Ruled.{Ruled}
 
@@ -32,13 +33,10 @@ pub edge_number_lem : (h q v : ℕ) → q ≡ 11 → h ≡ 0 → Some (edge_numb
 unfolding eleven_carries pick
 edge_number_lem h q v eq eh = rw (eq, eh) refl
 
-pub edge_nothing : (h q v : ℕ) → q ≡ 11 → (h ≡ 0 → ⊥) → None ≡ eleven_carries h q v
+pub eleven_nothing : (h q v : ℕ) → 11 ≤ q → ((q ≡ 11) × (h ≡ 0 → ⊥)) ⊎ (q ≡ 11 → ⊥) → None ≡ eleven_carries h q v
 unfolding eleven_carries pick
-edge_nothing h q v eq nh = rw (eq, ne_eqb h 0 nh) refl
-
-pub eleven_nothing : (h q v : ℕ) → 11 ≤ q → (q ≡ 11 → ⊥) → None ≡ eleven_carries h q v
-unfolding eleven_carries pick
-eleven_nothing h q v hq nq = rw (le-ltb q 11 hq, ne_eqb q 11 nq) refl
+eleven_nothing h q v hq (inl both) = rw (both.0, ne_eqb h 0 both.1) refl
+eleven_nothing h q v hq (inr nq) = rw (le-ltb q 11 hq, ne_eqb q 11 nq) refl
 
 pub eleven_carried : (y : System) (h q v : ℕ) (t : Bool) (r : Option ℕ) → Ruled y t → t ≡ true → r ≡ eleven_carries h q v → r ≡ carries_of y h q v
 eleven_carried y h q v t r k e er = er ∙ sym (ap (λ (f : ℕ → ℕ → ℕ → Option ℕ). f h q v) (k.carries ∙ pick_true _ _ e))
@@ -46,17 +44,15 @@ eleven_carried y h q v t r k e er = er ∙ sym (ap (λ (f : ℕ → ℕ → ℕ 
 pub ten_carried : (y : System) (h q v : ℕ) (t : Bool) (r : Option ℕ) → Ruled y t → t ≡ false → r ≡ ten_carries h q v → r ≡ carries_of y h q v
 ten_carried y h q v t r k e er = er ∙ sym (ap (λ (f : ℕ → ℕ → ℕ → Option ℕ). f h q v) (k.carries ∙ pick_false _ _ e))
 
-pub inside : (y : System) (h q v : ℕ) (r : Option ℕ) → h < 4 → v < 135 → r ≡ carries_of y h q v → r ≡ carried_in y (slot h q v)
-unfolding within pick
-inside y h q v r lh lv e = e ∙ rw (lt-ltb h 4 lh, lt-ltb v 135 lv) refl
+module _ (y : System) (s : Slot) where
+  pub inside : (r : Option ℕ) → s.channel < 4 → s.video.0 < 135 → r ≡ carries_of y s.channel s.sequence s.video.0 → r ≡ carried_in y s
+  unfolding within pick
+  inside r lh lv e = e ∙ rw (lt-ltb s.channel 4 lh, lt-ltb s.video.0 135 lv) refl
 
-pub no_video : (y : System) (h q v : ℕ) → h < 4 → 135 ≤ v → None ≡ carried_in y (slot h q v)
-unfolding within pick
-no_video y h q v lh lv = rw (lt-ltb h 4 lh, le-ltb v 135 lv) refl
-
-pub no_channel : (y : System) (h q v : ℕ) → 4 ≤ h → None ≡ carried_in y (slot h q v)
-unfolding within pick
-no_channel y h q v lh = rw (le-ltb h 4 lh) refl
+  pub outside : ((s.channel < 4) × (135 ≤ s.video.0)) ⊎ (4 ≤ s.channel) → None ≡ carried_in y s
+  unfolding within pick
+  outside (inl both) = rw (lt-ltb s.channel 4 both.0, le-ltb s.video.0 135 both.1) refl
+  outside (inr lh) = rw (le-ltb s.channel 4 lh) refl
 
 -- ---- where a macroblock lies: m and s are the unit of its column and the step of that, r the slot
 

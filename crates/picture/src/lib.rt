@@ -2,7 +2,7 @@
 #![tactic(auto)]
 
 ghost use Rattle.std.specs.Prelude.{◌≡◌, ◌<◌};
-ghost use Rattle.rules_picture.specs.Picture.{slot, step_of, column_of, macroblock, ten_carries, eleven_carries, carries_of, carried_in, unit_at, slot_at, ten_found};
+ghost use Rattle.rules_picture.specs.Picture.{step_of, column_of, macroblock, ten_carries, eleven_carries, carries_of, carried_in, unit_at, slot_at, ten_found};
 ghost use Rattle.rules_picture.specs.Picture.{eleven_found, carrier_of};
 ghost use Rattle.picture.specs.Ruled.{Ruled};
 
@@ -57,11 +57,11 @@ fn number(row: u32, column: u32, k: u32) -> u32
     (row * 5 + column) * 27 + k
 }
 
-fn ten_carries(h: u32, q: u32, video: BlockNumber) -> Option<u32>
-    requires { (h < 4) × (video.0 < 135) }
-    ensures { result ≡ ten_carries h q video.0 }
+fn ten_carries(s: Slot) -> Option<u32>
+    requires { (s.channel < 4) × (s.video.0 < 135) }
+    ensures { result ≡ ten_carries s.channel s.sequence s.video.0 }
 {
-    let v = video.0;
+    let (h, q, v) = (s.channel, s.sequence, s.video.0);
     if q < 10 {
         let m = v % 5;
         let z = 27 * q + v / 5;
@@ -72,22 +72,19 @@ fn ten_carries(h: u32, q: u32, video: BlockNumber) -> Option<u32>
 }
 
 // Eleven rows, then the edge unit in sequence 11 of DIF channel 0.
-fn eleven_carries(h: u32, q: u32, video: BlockNumber) -> Option<u32>
-    requires { (h < 4) × (video.0 < 135) }
-    ensures { result ≡ eleven_carries h q video.0 }
+fn eleven_carries(s: Slot) -> Option<u32>
+    requires { (s.channel < 4) × (s.video.0 < 135) }
+    ensures { result ≡ eleven_carries s.channel s.sequence s.video.0 }
 {
-    let v = video.0;
+    let (h, q, v) = (s.channel, s.sequence, s.video.0);
     if q < 11 {
         let m = v % 5;
         let z = 27 * q + v / 5;
         let row = ((4 * h + z) % 11 + step(m)) % 11;
         return Some(number(11 * h + row, column(m), z / 11));
     }
-    if q == 11 {
-        if h == 0 {
-            return Some(5940 + 27 * (v % 5) + v / 5);
-        }
-        return None;
+    if q == 11 && h == 0 {
+        return Some(5940 + 27 * (v % 5) + v / 5);
     }
     None
 }
@@ -104,27 +101,26 @@ fn eleven_rows(y: System) -> bool
     }
 }
 
-fn rows(y: System, h: u32, q: u32, video: BlockNumber) -> Option<u32>
-    requires { (h < 4) × (video.0 < 135) }
-    ensures { result ≡ carries_of y h q video.0 }
+fn rows(y: System, s: Slot) -> Option<u32>
+    requires { (s.channel < 4) × (s.video.0 < 135) }
+    ensures { result ≡ carries_of y s.channel s.sequence s.video.0 }
 {
     if eleven_rows(y) {
-        return eleven_carries(h, q, video);
+        eleven_carries(s)
+    } else {
+        ten_carries(s)
     }
-    ten_carries(h, q, video)
 }
 
-// What the slot of a video block of sequence q of DIF channel h carries.
-pub fn carried(y: System, h: u32, q: u32, video: BlockNumber) -> Option<u32>
-    ensures { result ≡ carried_in y (slot h q video.0) }
+// The macroblock that a slot carries, if any.
+pub fn carried(y: System, s: Slot) -> Option<u32>
+    ensures { result ≡ carried_in y s }
 {
-    if h < 4 {
-        if video.0 < 135 {
-            return rows(y, h, q, video);
-        }
-        return None;
+    if s.channel < 4 && s.video.0 < 135 {
+        rows(y, s)
+    } else {
+        None
     }
-    None
 }
 
 // V(5g+m) of the sequence q, with z = 27q + g.
@@ -170,12 +166,13 @@ fn eleven_found(b: u32) -> Option<Slot>
     None
 }
 
-// The slot of macroblock b.
+// The slot of macroblock b, if the system has one of that number.
 pub fn carrier(y: System, b: u32) -> Option<Slot>
     ensures { result ≡ carrier_of y b }
 {
     if eleven_rows(y) {
-        return eleven_found(b);
+        eleven_found(b)
+    } else {
+        ten_found(b)
     }
-    ten_found(b)
 }

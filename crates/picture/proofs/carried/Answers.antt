@@ -1,13 +1,10 @@
 -- `picture::carried` meets its contract: each way out. Assumes nothing.
-use borrow.Author.Rules.{rules}
-use Rattle.picture.proofs.Ways.{inside, no_video, no_channel}
+use Rattle.std.proofs.Common.{rules}
+use Rattle.picture.proofs.Ways.{inside, outside}
 use Rattle.picture.proofs.carried.Goals as goal
 
-pub returns-then-video-lt135 : goal.returns-then-video-lt135
-returns-then-video-lt135 c = search (inside, rules)
+pub returns-then-s-lt135 : goal.returns-then-s-lt135
+returns-then-s-lt135 c = inside _ _ _ c.if-s-lt4.true c.if-s-lt135.true c.rows.ensures
 
-pub returns-then-h-lt4 : goal.returns-then-h-lt4
-returns-then-h-lt4 c = search (no_video, rules)
-
-pub returns : goal.returns
-returns c = search (no_channel, rules)
+pub returns-else-s-lt4 : goal.returns-else-s-lt4
+returns-else-s-lt4 c = outside _ _ c.else-s-lt4.either

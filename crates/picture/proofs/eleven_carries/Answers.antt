@@ -1,6 +1,6 @@
 -- `picture::eleven_carries` meets its contract: each way out. Assumes nothing.
-use borrow.Author.Rules.{rules}
-use Rattle.picture.proofs.Ways.{eleven_number, edge_number_lem, edge_nothing, eleven_nothing}
+use Rattle.std.proofs.Common.{rules}
+use Rattle.picture.proofs.Ways.{eleven_number, edge_number_lem, eleven_nothing}
 use Rattle.picture.proofs.eleven_carries.Goals as goal
 
 pub returns-then-q-lt11 : goal.returns-then-q-lt11
@@ -8,9 +8,6 @@ returns-then-q-lt11 c = search (eleven_number, rules)
 
 pub returns-then-h-eq0 : goal.returns-then-h-eq0
 returns-then-h-eq0 c = search (edge_number_lem, rules)
-
-pub returns-then-q-eq11 : goal.returns-then-q-eq11
-returns-then-q-eq11 c = search (edge_nothing, rules)
 
 pub returns : goal.returns
 returns c = search (eleven_nothing, rules)

@@ -1,5 +1,5 @@
 -- `picture::ten_carries` meets its contract: each way out. Assumes nothing.
-use borrow.Author.Rules.{rules}
+use Rattle.std.proofs.Common.{rules}
 use Rattle.picture.proofs.Ways.{ten_number, ten_nothing}
 use Rattle.picture.proofs.ten_carries.Goals as goal
 
