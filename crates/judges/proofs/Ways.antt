@@ -26,7 +26,6 @@ use Rattle.judges.specs.Asked.{FirstInHalf}
 use Rattle.rules_format.specs.Blocks.{sequence_at}
 use Rattle.paper.specs.declared.SubcodeData.{SubcodeData}
 use Rattle.judges.specs.Tests.{test_of}
-use Rattle.judges.proofs.Places.{start_is}
 
 -- ---- the header and VS
 

@@ -1,8 +1,7 @@
 -- What the private functions ask and say.
-use Rattle.std.specs.Prelude.{◌≡◌, List, ℕ, ◌+◌, ◌*◌, ◌≤◌, ◌<◌, take, drop}
+use Rattle.std.specs.Prelude.{◌≡◌, List, ℕ, ◌+◌, ◌≤◌, ◌<◌, take, drop}
 use Rattle.paper.specs.declared.System.{System}
 use Rattle.paper.specs.declared.Place.{Place}
-use Rattle.rules_format.specs.Systems.{sequences_of}
 use Rattle.rules_reads.specs.Audio.{first_of_half}
 
 -- the sequence that starts at byte `at` of a frame

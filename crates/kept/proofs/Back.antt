@@ -52,7 +52,7 @@ use Rattle.base.proofs.Runs.{run_none}
 use Rattle.rules_format.specs.Faults.{fault_at}
 use Rattle.rules_format.proofs.Blocks.{block_in_sequence}
 
--- ---- frameFaults: a written frame has none
+-- ---- frame_faults: a written frame has none
 
 frame_faultless : (y : System) (l : Contents) → frame_faults y (written_frame y l) ≡ []
 unfolding frame_faults channel_faults sequence_faults block_faults

@@ -257,7 +257,7 @@ salvage_out_same {k} {f} {g} s words a = record {
       record { unnamed = λ d. x.unnamed (λ z. d (e ∙ z)); renamed = λ z. x.renamed (sym e ∙ z) ∙ ap sample_by (sym ((words c c1 c8).word t within)) };
 }
 
--- ---- surveyTable, salvageTable, checkTable: the length of the frame is the same
+-- ---- survey_table, salvage_table, check_table: the length of the frame is the same
 
 -- a row that asks nothing of the frame
 row_gives : {row rows rows' : Table} {r : ℕ} → Gives r rows rows' → Gives r (row else rows) (row else rows')
@@ -277,7 +277,7 @@ salvage_gives s = record { too = λ e. rw s.size e }
 pub check_gives : {k : ℕ} {f g : List ℕ} {r : ℕ} → Alike k f g → Gives r (check_table k f) (check_table k g)
 check_gives s = frame_gives s (checked_gives s none_gives)
 
--- ---- viewTable: the block's own fault, by the bytes of its ID
+-- ---- view_table: the block's own fault, by the bytes of its ID
 
 own_to : {k : ℕ} {f g : List ℕ} {h q p : ℕ} → Alike k f g → h < 4 → q < sequences k → p < 150 → (r : ℕ) → OwnFault (sequences k) f h q p r
     → OwnFault (sequences k) g h q p r
@@ -299,7 +299,7 @@ view_gives {k} {f} {g} h q p {r} s =
           inr (past.0, own.too past.1));
     })
 
--- ---- macroblockTable, timeTable
+-- ---- macroblock_table, time_table
 
 -- video blocks are of another section
 pub slot_section : (v : ℕ) → v < 135 → section_at (slot_place v) ≢ 3
@@ -371,7 +371,7 @@ time_gives {k} {f} {g} {r} s = record {
         (else_gives (same_if 26 (wrong_first_to s some) (wrong_first_to back some))
         (else_gives (same_if 27 (some_to (differs_to s some)) (some_to (differs_to back some))) none_gives))))
 
--- ---- audioTable, replaceTable
+-- ---- audio_table, replace_table
 
 -- the rows of an audio read before 24
 abbrev pub before_as : ℕ → List ℕ → ℕ → ℕ → Table → Table
@@ -500,7 +500,7 @@ module _ (k : ℕ) (f : List ℕ) (j b v : ℕ) (audio : section_at (j % 150) �
     words = λ j' b' hj eight hb'. elsewhere (omega arith) j' b' hb' (λ same z. omega (arith, z, eight, hb));
   }
 
--- ---- replaceTable beside audioTable: "those of the audio read, but no 4 for the sample list"
+-- ---- replace_table beside audio_table: "those of the audio read, but no 4 for the sample list"
 
 pub refused_gives : (k : ℕ) (f : List ℕ) (c room : ℕ) (samples : List ℤ) (r : ℕ) → r ≢ 0 → r ≢ 4 → Gives r (audio_table k f c room) (replace_table k f c samples)
 refused_gives k f c room samples r some four =

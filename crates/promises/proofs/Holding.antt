@@ -27,7 +27,7 @@ use Rattle.promises.proofs.Apart.{some_sequence}
 use Rattle.promises.proofs.LaidOut.{cut_byte}
 use Rattle.promises.proofs.One.{by_position, channels_one}
 
--- ---- sampleBy: a word is told from its sample
+-- ---- sample_by: a word is told from its sample
 
 pub word_again : (w : ℕ) → w < 65536 → word_by (sample_by w) ≡ w
 unfolding sample_by word_by pick
@@ -87,7 +87,7 @@ laid_bytes {k} {f} {l} laid inside = record {
   low = λ c t c1 c8 h. let h' : t < l.count = omega (arith, h, laid.count) in omega (arith, laid.low c t c1 c8 h');
 }
 
--- ---- writeTable: what gives 0
+-- ---- write_table: what gives 0
 
 -- the number of a position in the lent slice
 slice_below : (l : Contents) (c t : ℕ) → 0 < c → c < 9 → length l.sound ≡ 8 * l.count → t < l.count → (c - 1) * l.count + t < length l.sound
@@ -118,7 +118,7 @@ taken_inside l taken c t c1 c8 h o =
     (row_past (λ e. omega (arith, e)) four.1).0 (record { i = (c - 1) * l.count + t; within = slice_below l c t c1 c8 sounds h; outside = o }))
     (λ d. absurd (four.0 (inl d)))
 
--- ---- timeTable: where it gives 0, the time code of the frame keeps the rules
+-- ---- time_table: where it gives 0, the time code of the frame keeps the rules
 
 time_right : {k : ℕ} {f : List ℕ} → time_table k f 0 → WrongFirst k f → ⊥
 time_right {k} {f} t =

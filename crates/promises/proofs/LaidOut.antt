@@ -43,7 +43,7 @@ module _ (n : ℕ) (f : List ℕ) (h q p i m : ℕ) where
       let e : start n h q p + (i + j) ≡ start n h q p + i + j = omega arith in
       ap (λ (x : ℕ). get_or f x 0) e ∙ sym (get_or-take m (drop (start n h q p + i) f) j 0 l ∙ get_or-drop (start n h q p + i) f j 0)
 
--- ---- countBy: a count is said by one size
+-- ---- count_by: a count is said by one size
 
 size_back : (x : ℕ) → (count_by x ≡ 0 → ⊥) → size_form (count_by x) ≡ 0x40 + x
 unfolding count_by size_form pick

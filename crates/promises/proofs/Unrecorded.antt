@@ -117,7 +117,7 @@ pub already_marked : (k : ℕ) (f : List ℕ) (c : ℕ) (which : ℕ → Bool)
     → ((r : ℕ) → r < sequences k / 2 → which r ≡ true → mode_said (sequences k) f (sound_channel c) (sound_first (sequences k) c + r) ≡ 0xF) → Marks k f c which f
 already_marked k f c which e = record { size = refl; mark = λ r hr w. omega (arith, e r hr w); other = λ i d. refl }
 
--- ---- audioTable
+-- ---- audio_table
 
 -- what breaks the rules when it is marked broke them before
 unmark : (k c pc0 pc1 pc2 pc3 pc4 : ℕ) → WrongAs k c pc0 pc1 (pc2 / 16 * 16 + 0xF) pc3 pc4 → WrongAs k c pc0 pc1 pc2 pc3 pc4

@@ -52,7 +52,7 @@ holds_some y k l =
       is = omega (arith, div-add-mod' (k / 80 / 150) n, mul_comm n (k / 80 / 150 / n));
     }
 
--- ---- block_at, sequenceAt
+-- ---- block_at, sequence_at
 
 pub block_length : (y : System) (frame : List ℕ) (h q p : ℕ) → length frame ≡ 48000 * sequences_of y → h < 4 → q < sequences_of y → p < 150
     → length (block_at y frame h q p) ≡ 80

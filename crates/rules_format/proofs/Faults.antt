@@ -53,14 +53,14 @@ module _ (b : BlockId) (h q : ℕ) (e : Entry) where
       (pick_either FaultNumber _ (inr (omega arith, omega arith))
       (inl refl))))
 
--- ---- faultOf
+-- ---- fault_of
 
 -- the spare bits are not asked
 pub fault_named : (b : BlockId) (s : Spare) (h q : ℕ) (e : Entry) → fault_of (Named b s) h q e ≡ misnamed b h q e
 unfolding fault_of
 fault_named b s h q e = refl
 
--- ---- faultAt
+-- ---- fault_at
 
 -- "A block names its place when section, channel, Dseq and DBN all do."
 pub fault_names : (block : List ℕ) (h q p : ℕ) → fault_at block h q p ≡ 0 → NamesPlace block h q p

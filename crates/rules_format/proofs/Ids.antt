@@ -17,7 +17,7 @@ use native.Mathlib.Nat.{mod-eq_of_lt}
 use Rattle.base.proofs.Below.{below_at}
 use Rattle.paper.specs.declared.BlockId.{BlockId}
 
--- ---- channelOf
+-- ---- channel_of
 
 -- "(FSC, FSP) = (0,1), (1,1), (0,0), (1,0) is channel 0, 1, 2, 3"
 pub channel_pairs : (channel_of 0 1 ≡ 0) × (channel_of 1 1 ≡ 1) × (channel_of 0 0 ≡ 2) × (channel_of 1 0 ≡ 3)
@@ -28,13 +28,13 @@ pub channel_bits : (h : ℕ) → h < 4 → channel_of (fsc_of h) (fsp_of h) ≡ 
 unfolding channel_of pick
 channel_bits h l = eqb→eq _ _ (below_at (λ k. eqb (channel_of (fsc_of k) (fsp_of k)) k) 4 tt h l)
 
--- ---- spareIn
+-- ---- spare_in
 
 pub spare_bits : (id : List ℕ) → spare_in id ≡ record { arbitrary = get_or id 0 0 % 16; reserved = get_or id 0 0 / 16 % 2 * 4 + get_or id 1 0 % 4 }
 unfolding spare_in
 spare_bits id = refl
 
--- ---- idAnswer
+-- ---- id_answer
 
 -- three bytes have an answer
 pub answer_long : (id : List ℕ) → length id ≡ 3 → id_answer id ≡ WrongLength → ⊥
@@ -45,7 +45,7 @@ answer_long id e w = three (ltb (section_bits id) 5) (rw (eq-eqb _ _ e) at w)
     three true z = let q : ◌≡◌ {A = ℕ} 0 1 = cc in omega arith
     three false z = let q : ◌≡◌ {A = ℕ} 0 1 = cc in omega arith
 
--- ---- idBytes
+-- ---- id_bytes
 
 -- the fields of the second byte, where FSC and FSP are bits
 module _ (q fsc fsp : ℕ) (hq : q < 16) (hc : fsc < 2) (hp : fsp < 2) where
@@ -81,7 +81,7 @@ answer_written b hc hd hn =
     ∙ pick_true _ _ (lt-ltb _ _ below)
     ∙ rw (section, dseq, fsc, fsp, dbn, arbitrary, bit, low, section_code b.section, channel_bits h hc) refl
 
--- ---- idAnswer: each case exactly when
+-- ---- id_answer: each case exactly when
 
 module _ (id : List ℕ) where
   pub read_id_4 : (length id ≡ 3 → ⊥) → id_answer id ≡ WrongLength

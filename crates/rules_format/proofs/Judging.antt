@@ -23,7 +23,7 @@ key_below h q l = omega arith
 pub printed_below : (p : ℕ) → p < 150 → printed (entry_at (place p)) < 10000000
 printed_below p l = omega (arith, code_below (entry_at (place p)).section, number_below p l)
 
--- ---- judgedBits
+-- ---- judged_bits
 
 -- the three parts of the judged bits are known from their sum
 parts_one : (x y z s k n : ℕ) → x < 8 → y < 64 → z < 256 → s < 8 → k < 64 → n < 256 → 32 * x + 1024 * y + 65536 * z ≡ 32 * s + 65536 * n + 1024 * k → (x ≡ s) × (y ≡ k) × (z ≡ n)

@@ -37,7 +37,7 @@ use Rattle.rules_format.proofs.Reading.{salvaged_named, salvaged_lost}
 use Rattle.rules_format.specs.Ids.{named_by, spare_in, id_at, id_bytes}
 use Rattle.rules_format.proofs.Blocks
 
--- ---- isCount
+-- ---- is_count
 
 count_60 : (y : System) (k : ℕ) → sequences_of y ≡ 10 → is_count y k ≡ (eqb k 1600 || eqb k 1602)
 count_60 I60 k e = refl
@@ -55,13 +55,13 @@ count_50 I50 k e = count_twice k
 count_50 P60 k e = absurd (omega (arith, e))
 count_50 P50 k e = count_twice k
 
--- ---- inRange
+-- ---- in_range
 
 range_numbers : (n : ℕ) → (in_range (pos n) ≡ leb n 32768) × (in_range (negsuc n) ≡ leb n 32767)
 unfolding in_range
 range_numbers n = (refl, by_bool (leb n 32767) (λ e. rw e refl) (λ e. rw e refl))
 
--- ---- soundBlock, soundNamed: the block of a position, its word
+-- ---- sound_block, sound_named: the block of a position, its word
 
 module _ (y : System) (g : List ℕ) (c t : ℕ) where
   abbrev j : ℕ

@@ -121,7 +121,7 @@ module _ (p : ℕ) where
       by_lt p 150 number_within
       (λ g. ap (λ (e : Entry). e.number.0) (entry_past p g) ∙ sym (ap (λ (x : ℕ × ℕ). x.1) (figure_past p g)))
 
--- ---- channelBy, channelBits: "(FSC, FSP) = (0,1), (1,1), (0,0), (1,0) is channel 0, 1, 2, 3"
+-- ---- channel_by, channel_bits: "(FSC, FSP) = (0,1), (1,1), (0,0), (1,0) is channel 0, 1, 2, 3"
 
 channel_pair : (w : ℕ) → w < 4 → channel_of (w / 2) (w % 2) ≡ channel_by w
 unfolding channel_of pick
@@ -136,7 +136,7 @@ channel_by_lem x =
 pub bits_channel : (h : ℕ) → h < 4 → 2 * fsc_of h + fsp_of h ≡ channel_bits h
 bits_channel h l = eqb→eq _ _ (below_at (λ j. eqb (2 * fsc_of j + fsp_of j) (channel_bits j)) 4 tt h l)
 
--- ---- idBytes
+-- ---- id_bytes
 
 pub id_is : (s : Section) (h q d : ℕ) → h < 4 → q < 16 → d < 256 → id_bytes (id_of h q s d) ≡ (32 * code_of s + 31) ∷ (16 * q + 4 * channel_bits h + 3) ∷ d ∷ []
 unfolding id_bytes
@@ -197,7 +197,7 @@ module _ (y : System) (f : List ℕ) (h q p : ℕ) where
   unfolding block_at
   rest_bytes = drop_part (start_of y h q p) 3 77 f
 
--- ---- holdsTime, holdsGroup: an SSYB that holds a pack is one of the twelve
+-- ---- holds_time, holds_group: an SSYB that holds a pack is one of the twelve
 
 one_below : (j : ℕ) → 12 ≤ j → (is_one_of (3 ∷ 5 ∷ 9 ∷ 11 ∷ []) j ≡ false) × (is_one_of (3 ∷ 9 ∷ []) j ≡ false) × (is_one_of (4 ∷ 10 ∷ []) j ≡ false)
 one_below j h =

@@ -21,7 +21,7 @@ use Rattle.paper.specs.declared.Entry.{Entry}
 use Rattle.rules_format.specs.Places.{code_of, section_of, blocks_of, place, block, places, entry_at, place_in, place_for, place_of}
 use Rattle.rules_format.specs.Judging.{printed, printed_places, entry_of}
 
--- ---- code_of, sectionOf
+-- ---- code_of, section_of
 
 pub section_code : (s : Section) → section_of (code_of s) ≡ s
 unfolding section_of pick
@@ -103,7 +103,7 @@ module _ (s : Section) (k : ℕ) (h : k < blocks_of s) where
       let n : (entry_at (place (place_in s k))).number.0 ≡ k = eqb→eq _ _ (both_right (same_section s k) (same_number s k) is_same) in
       λ i. record { section = e i; number = record { 0 = n i } }
 
--- ---- placeFor
+-- ---- place_for
 
 module _ (s : Section) (k : BlockNumber) where
   pub place_for_lem : k.0 < blocks_of s → place_for s k ≡ place (place_in s k.0)
@@ -159,7 +159,7 @@ blocks_le Video = omega arith
 pub number_below : (p : ℕ) → p < 150 → (entry_at (place p)).number.0 < 135
 number_below p h = omega (arith, entry_number_below p h, blocks_le (entry_at (place p)).section)
 
--- ---- printedPlaces, entry_of
+-- ---- printed_places, entry_of
 
 prints : ℕ → Bool
 prints p = eqb (get_or printed_places p 0) (printed (entry_at (place p)))

@@ -14,7 +14,7 @@ use Rattle.rules_format.proofs.Systems.{half_cases, half_twice}
 use Rattle.rules_format.proofs.Sound.{rank_below, sequence_below}
 
 module _ (y : System) (frame : List ℕ) (c t : ℕ) where
-  -- ---- salvagedSample: the word's sample where the block names its place, lost where it does not
+  -- ---- salvaged_sample: the word's sample where the block names its place, lost where it does not
 
   pub salvaged_named : sound_named y frame c t ≡ true → salvaged_sample y frame c t ≡ read_sample y frame c t
   unfolding salvaged_sample
@@ -24,7 +24,7 @@ module _ (y : System) (frame : List ℕ) (c t : ℕ) where
   unfolding salvaged_sample
   salvaged_lost e = pick_false _ _ e
 
-  -- ---- soundBlock: where it lies
+  -- ---- sound_block: where it lies
 
   pub sound_sequence : sequence_of (half_of y) c t < sequences_of y
   sound_sequence = omega (arith, half_twice y, sequence_below (half_of y) c (rank_of (half_of y) t) (half_cases y) (rank_below (half_of y) (half_cases y) t))

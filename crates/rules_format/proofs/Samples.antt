@@ -18,7 +18,7 @@ use Rattle.rules_format.specs.Samples.{number_of, in_range, sample_in, all_in_ra
 use Rattle.paper.specs.Paper
 use Rattle.paper.specs.Paper.{sample_by, back}
 
--- ---- sampleOf, word_of
+-- ---- sample_of, word_of
 
 -- "Word 8000h is lost"
 pub lost_word : (sample_of 0x8000 ≡ Lost) × (word_of Lost ≡ 0x8000)
@@ -43,7 +43,7 @@ bytes_high = refl
 pub bytes_word : (w : ℕ) → word_at (bytes_of w) 0 ≡ w
 bytes_word w = div-add-mod' w 256
 
--- ---- sampleIn: "outside -32,768 to 32,768" is no sample
+-- ---- sample_in: "outside -32,768 to 32,768" is no sample
 
 pub range_ends : (in_range (pos 32768) ≡ true) × (in_range (negsuc 32767) ≡ true) × (in_range (pos 32769) ≡ false) × (in_range (negsuc 32768) ≡ false)
 unfolding in_range
@@ -65,7 +65,7 @@ sample_level (pos n) e d =
     (λ o. rw (e, lt-leb 32768 n (omega (arith, o, leb-true n 32768 e))) refl)
 sample_level (negsuc n) e d = rw e refl
 
--- ---- word_for, backOf in document 01's words: a number that is given, as its word and as it comes back
+-- ---- word_for, back_of in document 01's words: a number that is given, as its word and as it comes back
 
 pub word_is : (z : ℤ) → in_range z ≡ true → word_for z ≡ Paper.word_by z
 unfolding in_range sample_in word_in word_of Paper.word_by pick
@@ -92,7 +92,7 @@ back_is (negsuc n) e =
     (λ q. rw q refl)
     (λ d. rw (lt-leb 32767 n (omega (arith, d)), ne_eqb n 32767 d) refl)
 
--- ---- sampleOf in document 01's words
+-- ---- sample_of in document 01's words
 
 pub heard_is : (w : ℕ) → number_of (sample_of w) ≡ sample_by w
 unfolding sample_of sample_by pick
@@ -144,7 +144,7 @@ pub back_other : (n : ℕ) → (back_of (pos n) ≡ pos n) × (n < 32767 → bac
 unfolding back_of pick
 back_other n = (refl, λ l. rw (lt-leb 32767 n l) refl)
 
--- ---- allInRange
+-- ---- all_in_range
 
 -- every number of a slice that passed is in the range, and where each is, the slice passes
 pub all_in : (xs : List ℤ) (i : ℕ) → all_in_range xs ≡ true → i < length xs → in_range (get_or xs i (pos 0)) ≡ true

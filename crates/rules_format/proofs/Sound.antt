@@ -59,7 +59,7 @@ module _ (s w u : ℕ) (p : 0 < s) (h : u < 9 * s) where
       thirds : 3 * s * w + u / 3 + 2 * (u % 3) ≡ s * (3 * w) + (u / 3 + 2 * (u % 3))
       thirds = omega arith
 
--- ---- sampleAt: a sample is where the inverse says
+-- ---- sample_at: a sample is where the inverse says
 
 is_first : ℕ → ℕ → Bool
 is_first s u = eqb (first_at s (rank_of s u) (audio_of s u)) u
@@ -108,7 +108,7 @@ module _ (s : ℕ) (half : Half s) where
     pub word_below : t < 36 * (9 * s) → word_number s t < 36
     word_below h = (div-lt_iff_lt-mul turn_some).1 h
 
--- ---- rank_of, audioOf, wordNumber: the sample at a place has that place
+-- ---- rank_of, audio_of, word_number: the sample at a place has that place
 
 -- audio block a of the sequence of rank r is number 9 r + a of a half
 within_turn : ℕ → ℕ → Bool
@@ -165,9 +165,9 @@ module _ (s : ℕ) (half : Half s) (r a : ℕ) (hr : r < s) (ha : a < 9) where
         let l : (w + 1) * (9 * s) ≤ 36 * (9 * s) = mul-le-mul_right (9 * s) g in
         omega (arith, first_below)
 
--- ---- audioAt, rank_at: the audio channel of a sequence, and its rank there
+-- ---- audio_at, rank_at: the audio channel of a sequence, and its rank there
 
--- the sequence of rank r of audio channel c's half is sequence s · halfAt c + r of its DIF channel
+-- the sequence of rank r of audio channel c's half is sequence s · half_at c + r of its DIF channel
 module _ (s c r : ℕ) (half : Half s) (hr : r < s) where
   half_sequence : (s * half_at c + r) / s ≡ half_at c
   half_sequence = mul-add-div (half_some s half) (half_at c) r ∙ ap (λ (x : ℕ). half_at c + x) (div-eq_of_lt hr) ∙ omega arith

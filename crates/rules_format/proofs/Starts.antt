@@ -15,7 +15,7 @@ use Rattle.rules_format.proofs.Blocks.{holds_one}
 use Rattle.rules_format.proofs.Sound.{sample_back, rank_below, audio_below, word_below, rank_sequence_lem, audio_sequence}
 use Rattle.rules_format.proofs.Reading.{sound_sequence}
 
--- ---- soundStart
+-- ---- sound_start
 
 -- by the definitions of the sound rule
 pub start_is : (y : System) (c t : ℕ) → sound_start (sequences_of y) c t ≡ start_of y (dif_of c) (sequence_of (half_of y) c t) (sound_place (half_of y) t) + byte_of (half_of y) t

@@ -12,7 +12,7 @@ use Rattle.paper.specs.declared.System.{System}
 use Rattle.paper.specs.declared.System.TheVariants.{I60, I50, P60, P50}
 use Rattle.rules_format.specs.Systems.{sequences_of, half_of, positions_of, counts_of, is_count, macroblocks_of, rate_of, stype_of, system_of, number_of_system}
 
--- ---- systemOf
+-- ---- system_of
 
 pub system_number : (y : System) → system_of (number_of_system y) ≡ Some y
 unfolding system_of pick
@@ -27,7 +27,7 @@ unfolding system_of pick
 system_above k h =
     rw (ne_eqb k 0 (λ e. omega arith), ne_eqb k 1 (λ e. omega arith), ne_eqb k 2 (λ e. omega arith), ne_eqb k 3 (λ e. omega arith)) refl
 
--- ---- sequencesOf
+-- ---- sequences_of
 
 pub sequences_cases : (y : System) → (sequences_of y ≡ 10) ⊎ (sequences_of y ≡ 12)
 sequences_cases I60 = inl refl
@@ -63,7 +63,7 @@ half_twice I50 = refl
 half_twice P60 = refl
 half_twice P50 = refl
 
--- ---- rateOf
+-- ---- rate_of
 
 pub rate_sequences : (y : System) → sequences_of y ≡ 10 + 2 * rate_of y
 rate_sequences I60 = refl
@@ -77,7 +77,7 @@ rate_below I50 = omega arith
 rate_below P60 = omega arith
 rate_below P50 = omega arith
 
--- ---- stypeOf
+-- ---- stype_of
 
 pub stype_below : (y : System) → stype_of y < 32
 stype_below I60 = omega arith
@@ -85,7 +85,7 @@ stype_below I50 = omega arith
 stype_below P60 = omega arith
 stype_below P50 = omega arith
 
--- ---- positionsOf, isCount
+-- ---- positions_of, is_count
 
 -- half of a DIF channel's audio blocks, nine a sequence, of 36 words each
 pub positions_sequences : (y : System) → 2 * positions_of y ≡ sequences_of y * 9 * 36
@@ -134,7 +134,7 @@ counts_turns P50 = (omega arith, omega arith)
 pub count_turns : (y : System) (k : ℕ) → is_count y k ≡ true → 9 * half_of y * 35 ≤ k
 count_turns y k e = ⊎_elim (λ f. omega (arith, counts_turns y)) (λ m. omega (arith, counts_turns y)) (count_cases y k e)
 
--- ---- macroblocksOf
+-- ---- macroblocks_of
 
 pub macroblocks_some : (y : System) → 0 < macroblocks_of y
 macroblocks_some I60 = omega arith

@@ -44,7 +44,7 @@ pub as_mode : tab (λ (k : ℕ). mode_of (k + 1)) 8 ≡ 0 ∷ 1 ∷ 0 ∷ 1 ∷ 
 unfolding tab run
 as_mode = refl
 
--- ---- modeOk: the audio channel's own, or 1111
+-- ---- mode_ok: the audio channel's own, or 1111
 
 pub mode_is : (c mode : ℕ) → (mode_ok c mode ≡ true → (mode ≡ mode_of c) ⊎ (mode ≡ 0xF)) × ((mode ≡ mode_of c) ⊎ (mode ≡ 0xF) → mode_ok c mode ≡ true)
 mode_is c mode =
@@ -53,7 +53,7 @@ mode_is c mode =
       ⊎_elim own (λ mark. by_eq mode (mode_of c) own (λ d. rw (ne_eqb mode (mode_of c) d) (eq-eqb mode 0xF mark))),
     )
 
--- ---- asPack, asOk, countIn, modeIn
+-- ---- as_pack, as_ok, count_in, mode_in
 
 -- the known AS of document 01
 pub as_known : pack_bytes (as_pack I60 1602 1) ≡ 0x50 ∷ 0x56 ∷ 0x10 ∷ 0xC3 ∷ 0xC0 ∷ []
@@ -136,7 +136,7 @@ as_written y count c h = as_when y c (as_pack y count c) (record {
   smp_qu = refl;
 })
 
--- ---- asAt
+-- ---- as_at
 
 -- "AS is pack 3 in even sequences, 0 in odd"
 module _ (q : ℕ) where

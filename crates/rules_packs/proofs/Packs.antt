@@ -20,7 +20,7 @@ use Rattle.rules_packs.specs.Packs.{pack_in, pack_bytes, no_pack, pair_at}
 use Rattle.rules_packs.specs.Header.{header_bytes, dsf_ok, flagged}
 use Rattle.rules_packs.specs.TimeCode.{value_in, digits_ok, last_frame, clock_ok, time_ok, group_ok, bit_taken, time_taken, Digits, Clock}
 
--- ---- packIn, packBytes
+-- ---- pack_in, pack_bytes
 
 pub pack_bytes_lem : (p : Pack) → pack_in (pack_bytes p) 0 ≡ p
 pack_bytes_lem p = refl
@@ -62,7 +62,7 @@ module _ (id rest : List ℕ) (w : ℕ) (f : ℕ → List ℕ) (s : Wide w f) (n
       byte : (m i : ℕ) → i < w → m ≡ 3 + (j * w + i) → get_or (id ++ (run f n ++ rest)) m 0 ≡ get_or (f j) i 0
       byte m i k same = rw same (part_byte i k)
 
--- ---- headerBytes
+-- ---- header_bytes
 
 pub header_length : (y : System) → length (header_bytes y) ≡ 77
 unfolding header_bytes
@@ -113,7 +113,7 @@ module _ (id : List ℕ) (three : length id ≡ 3) where
   pub dsf_written : (y z : System) → dsf_ok y (id ++ header_bytes z) ≡ eqb (rate_of z) (rate_of y)
   dsf_written y z = ap (λ (bit : ℕ). eqb bit (rate_of y)) (dsf_bit z)
 
--- ---- dsfOk, flagged
+-- ---- dsf_ok, flagged
 
 pub dsf_means : (y : System) (block : List ℕ) → dsf_ok y block ≡ true → get_or block 3 0 / 128 ≡ rate_of y
 dsf_means y block e = eqb-true (get_or block 3 0 / 128) (rate_of y) e
@@ -127,7 +127,7 @@ flag_means k block e = eqb-true (get_or block (4 + k) 0 / 128) 1 e
 pub flag_when : (k : ℕ) (block : List ℕ) → get_or block (4 + k) 0 / 128 ≡ 1 → flagged k block ≡ true
 flag_when k block e = eq-eqb (get_or block (4 + k) 0 / 128) 1 e
 
--- ---- valueIn, digitsOk, lastFrame
+-- ---- value_in, digits_ok, last_frame
 
 -- tens in bits 5-4, or in bits 6-4, and what flags stand above them is not read
 pub value_two_bits : (flags t u : ℕ) → t < 4 → u < 16 → value_in 4 (64 * flags + 16 * t + u) ≡ 10 * t + u
@@ -152,7 +152,7 @@ digits_means values most b e =
 pub digits_when : (values most b : ℕ) → Digits values most b → digits_ok values most b ≡ true
 digits_when values most b d = rw (lt-ltb (b % 16) 10 d.units) (le-leb (value_in values b) most d.value)
 
--- ---- clockOk, timeOk
+-- ---- clock_ok, time_ok
 
 module _ (y : System) (p : Pack) where
   pub clock_means : clock_ok y p ≡ true → Clock y p
@@ -181,7 +181,7 @@ module _ (y : System) (p : Pack) where
   pub time_when : p.pc0 ≡ 0x13 → Clock y p → time_ok y p ≡ true
   time_when e h = rw (eq-eqb p.pc0 0x13 e) (clock_when h)
 
-  -- ---- timeTaken
+  -- ---- time_taken
 
   -- "At 50 Hz bit 6 of PC1 is arbitrary: the writer takes only 1"
   pub bit_means : bit_taken y p ≡ true → rate_of y ≡ 1 → p.pc1 / 64 % 2 ≡ 1

@@ -22,7 +22,7 @@ use Rattle.rules_packs.specs.Subcode.{is_first, kind_of, subcode_pack, ssyb, ssy
 use Rattle.rules_format.proofs.Systems.{half_twice}
 use Rattle.rules_packs.proofs.Packs.{part_pack}
 
--- ---- isFirst: "the first n/2 sequences"
+-- ---- is_first: "the first n/2 sequences"
 
 pub first_means : (y : System) (q : ℕ) → is_first y q ≡ true → 2 * q < sequences_of y
 first_means y q e = omega (arith, half_twice y, ltb-true q (half_of y) e)
@@ -95,7 +95,7 @@ kind_none_second k d3 d9 =
     (λ h. neither_none (kind_of false k) ((kind_positions k h).second_time ∙ rw (ne_eqb k 3 d3) (ne_eqb k 9 d9)) (kind_positions k h).second_group)
     (λ h. kind_past false k h)
 
--- ---- ssyb, subcodeBytes
+-- ---- ssyb, subcode_bytes
 
 module _ (said : SubcodeData) (k : ℕ) where
   -- "bit 7 FR: 1 in the first n/2 sequences"

@@ -21,7 +21,7 @@ use Rattle.rules_packs.specs.Packs.{pack_bytes}
 use Rattle.rules_packs.specs.Vaux.{vs_at, vs_pack, vaux_pack, vaux_packs, vaux_bytes, vs_ok, Vs, vaux_in}
 use Rattle.rules_packs.proofs.Packs.{part_pack}
 
--- ---- vsPack, vsOk
+-- ---- vs_pack, vs_ok
 
 -- "PC3 bit 5 is 1 for 50 Hz, bits 4-0 are 14h (1080) or 18h (720)."
 pub vs_rate : (y : System) → (vs_pack y).pc3 / 32 % 2 ≡ rate_of y
@@ -74,7 +74,7 @@ vs_tells y z e =
     let known : Some y ≡ Some z = sym (told y) ∙ rw (rate, stype) (told z) in
     cc
 
--- ---- vsAt
+-- ---- vs_at
 
 -- "VS is pack 39 in even sequences, 0 in odd"
 module _ (q : ℕ) where
@@ -90,7 +90,7 @@ pub vs_below : (q : ℕ) → vs_at q + 1 < 45
 unfolding vs_at
 vs_below q = pick_either (λ (k : ℕ). k + 1 < 45) _ (omega arith) (omega arith)
 
--- ---- vauxBytes
+-- ---- vaux_bytes
 
 module _ (vs vsc : Pack) (q k : ℕ) where
   abbrev fifteen : ℕ → List ℕ

@@ -38,13 +38,13 @@ use lib.Seq.{take_all}
 use Rattle.base.specs.Run.{run, tab}
 use Rattle.base.proofs.Runs.{tab_part}
 
--- ---- packBytes: those that a pack was made of
+-- ---- pack_bytes: those that a pack was made of
 
 pub four_again : (bytes : List ℕ) → length bytes ≡ 4 → get_or bytes 0 0 ∷ get_or bytes 1 0 ∷ get_or bytes 2 0 ∷ get_or bytes 3 0 ∷ [] ≡ bytes
 unfolding tab run
 four_again bytes e = tab_part 0 bytes 0 4 (omega (arith, e)) ∙ take_all 4 bytes (omega (arith, e))
 
--- ---- isFirst, kind_of
+-- ---- is_first, kind_of
 
 first_time : (j : ℕ) → j < 12 → is_one_of (3 ∷ 5 ∷ 9 ∷ 11 ∷ []) j ≡ is_time (kind_of true j)
 unfolding kind_of agree
@@ -87,7 +87,7 @@ module _ (k : ℕ) (y : System) (known : system_of k ≡ Some y) (q : ℕ) where
     unfolding holds_group pick
     holds_group_lem l = rw half_first (by_bool (is_first y q) (λ e. rw e (first_group j l)) (λ e. rw e (second_group j l)))
 
--- ---- packBytes
+-- ---- pack_bytes
 
 -- a source pack, its control pack, or none
 packs_form : (source control : Bool) (p o : Pack) {bytes : List ℕ} → bytes ≡ pack_bytes p

@@ -18,7 +18,7 @@ use Rattle.rules_picture.specs.Picture.{slot, ten_carries, eleven_carries, withi
 use Rattle.rules_picture.specs.Rows.{meets, rows_agree, table22, table23, table24, printed_rows}
 use Rattle.rules_picture.proofs.Ruled.{carried_picked, eleven_back, ten_back, ten_forth, within_there, eleven_forth}
 
--- ---- carriedIn: the printed rows
+-- ---- carried_in: the printed rows
 
 -- "a row they print decides"
 pub rows_agree_lem : T (rows_agree printed_rows)

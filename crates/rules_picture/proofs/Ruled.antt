@@ -67,7 +67,7 @@ module _ (q v : ℕ) (hv : v < 135) where
   turn_below : (R : ℕ) → q < R → turn_of q v < 27 * R
   turn_below R l = omega arith
 
--- ---- columnOf, unit_at: five units, five columns
+-- ---- column_of, unit_at: five units, five columns
 
 each_below : (f : ℕ → ℕ) (m n : ℕ) → T (below (λ (i : ℕ). ltb (f i) m) n) → (i : ℕ) → i < n → f i < m
 each_below f m n t i l = ltb→lt (f i) m (below_at (λ (j : ℕ). ltb (f j) m) n t i l)
@@ -189,7 +189,7 @@ module _ {R : ℕ} {order place : ℕ → ℕ} {turn : ℕ → ℕ → ℕ} {f :
   back_by : (h q v b : ℕ) → h < 4 → q < R → v < 135 → f h q v ≡ Some b → (b < 540 * R) × (g b ≡ Some (slot h q v))
   back_by h q v b lh lq lv e = lies_by h q v b lh lq lv (let c = rule.carries h q v lq lv in cc)
 
--- ---- tenCarries, tenFound: the order of z is q div 5 + 2z
+-- ---- ten_carries, ten_found: the order of z is q div 5 + 2z
 
 abbrev ten_order_of : ℕ → ℕ
 ten_order_of z = (z / 27 / 5 + 2 * z) % 10
@@ -245,7 +245,7 @@ ten_forth = forth_by ten_ruled
 pub ten_back : (h q v b : ℕ) → h < 4 → q < 10 → v < 135 → ten_carries h q v ≡ Some b → (b < 5400) × (ten_found b ≡ Some (slot h q v))
 ten_back = back_by ten_ruled
 
--- ---- elevenCarries, elevenFound: z is 11 times its place and its order
+-- ---- eleven_carries, eleven_found: z is 11 times its place and its order
 
 eleven_carries_lem : (h q v : ℕ) → q < 11 → v < 135 → eleven_carries h q v ≡ Some (number_by 11 (λ (z : ℕ). z % 11) (λ (z : ℕ). z / 11) h (turn_of q v) (unit_of v))
 unfolding eleven_carries
@@ -273,7 +273,7 @@ eleven_ruled = record {
   turn_below = λ b o l. omega arith;
 }
 
--- ---- elevenCarries, elevenFound: the edge unit, sequence 11 of DIF channel 0
+-- ---- eleven_carries, eleven_found: the edge unit, sequence 11 of DIF channel 0
 
 pub carried_picked : (t : Bool) (x : Option ℕ) (b : ℕ) → pick t x None ≡ Some b → (t ≡ true) × (x ≡ Some b)
 unfolding pick

@@ -19,7 +19,7 @@ use Rattle.rules_picture.proofs.Ruled.{within_there}
 use Rattle.rules_picture.proofs.Picture.{carrier_carries, carrier_one, carried_inside, carried_lies, carrier_past}
 use Rattle.rules_format.proofs.Paper.{columns, number_known, known_system}
 
--- ---- carriedIn: what the slot V(5g+m) carries
+-- ---- carried_in: what the slot V(5g+m) carries
 
 module _ (h q g m : ℕ) (hg : g < 27) (hm : m < 5) where
   group_is : (5 * g + m) / 5 ≡ g

@@ -35,7 +35,7 @@ use Rattle.rules_format.proofs.Sound.{half_some}
 use Rattle.rules_packs.proofs.Aaux.{as_means}
 use Rattle.rules_reads.proofs.Check.{from_means, rows_on}
 
--- ---- audioRows: each number exactly when its row is the first that holds
+-- ---- audio_rows: each number exactly when its row is the first that holds
 
 module _ (y : System) (frame : List ℕ) (c : ℕ) where
   pub audio_23 : every_sequence y frame (unflagged 1) ≡ false → 23 ≡ first_of (audio_rows y frame c)
@@ -89,7 +89,7 @@ module _ (y : System) (frame : List ℕ) (c : ℕ) where
         → count_in (as_in (first_of_half y c + r) (sequence_at y frame (dif_of c) (first_of_half y c + r))) ≡ count_for y frame c
     half_count e = eqb-true _ _ (from_means y frame (count_is (count_for y frame c)) (dif_of c) (first_of_half y c) (half_of y) e r hr)
 
--- ---- heardSample
+-- ---- heard_sample
 
 module _ (y : System) (frame : List ℕ) (c t : ℕ) where
   pub heard_marked : is_marked y frame c ≡ true → heard_sample y frame c t ≡ Lost
@@ -100,7 +100,7 @@ module _ (y : System) (frame : List ℕ) (c t : ℕ) where
   unfolding heard_sample
   heard_recorded e = pick_false _ _ e
 
--- ---- audioNumber
+-- ---- audio_number
 
 module _ (k : ℕ) (frame : List ℕ) (c size : ℕ) where
   pub audio_1 : system_of k ≡ None → 1 ≡ audio_number k frame c size

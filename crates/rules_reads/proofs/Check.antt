@@ -34,7 +34,7 @@ use Rattle.rules_format.proofs.Places.{place_in_below}
 use Rattle.rules_format.proofs.Blocks.{before_channel, block_in_sequence}
 use Rattle.rules_surveys.proofs.FaultLists.{faults_stream}
 
--- ---- everyFrom, everySequence: each sequence passes
+-- ---- every_from, every_sequence: each sequence passes
 
 module _ (y : System) (frame : List ℕ) (test : ℕ → List ℕ → Bool) where
   module _ (h q k : ℕ) where
@@ -108,7 +108,7 @@ module _ (y : System) (frame : List ℕ) (h q : ℕ) (hh : h < 4) (hq : q < sequ
   pub flag_each : (k : ℕ) → every_sequence y frame (unflagged k) ≡ true → flagged k (block_at y frame h q (place_in Header 0)) ≡ false
   flag_each k e = ap (flagged k) (sym header_in_lem) ∙ not-true _ (every_means y frame (unflagged k) e h q hh hq)
 
--- ---- firstFault: "the first faulty block in stream order"
+-- ---- first_fault: "the first faulty block in stream order"
 
 -- what came first stays first
 first_keeps : (fs gs : List Fault) (k : ℕ) → first_fault fs ≡ k → (k ≡ 0 → ⊥) → first_fault (fs ++ gs) ≡ k
@@ -175,7 +175,7 @@ module _ (y : System) (frame : List ℕ) where
       let all : named y frame j ≡ true = unnamed_all (blocks_in y) (blocks_in y) (sym (ap first_fault (faults_stream y frame)) ∙ z) (omega arith) j within in
       rw (row, place, channel, dseq) at all
 
--- ---- checkRows: each number exactly when its row is the first that holds
+-- ---- check_rows: each number exactly when its row is the first that holds
 
 module _ (y : System) (frame : List ℕ) where
   pub rows_fault : (fault_in y frame ≡ 0 → ⊥) → first_of (check_rows y frame) ≡ fault_in y frame

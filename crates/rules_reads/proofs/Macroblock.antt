@@ -30,7 +30,7 @@ use Rattle.rules_format.proofs.Blocks.{start_within, block_length, part_taken, p
 use Rattle.rules_picture.proofs.Picture.{carried_inside, carried_lies, carrier_one}
 use Rattle.rules_reads.proofs.Check.{rows_on}
 
--- ---- pictureRows
+-- ---- picture_rows
 
 module _ (y : System) (frame : List ℕ) where
   pub picture_23 : every_sequence y frame (unflagged 2) ≡ false → 23 ≡ first_of (picture_rows y frame)
@@ -41,7 +41,7 @@ module _ (y : System) (frame : List ℕ) where
   unfolding picture_rows first_of pick
   picture_0 e = rw e refl
 
--- ---- macroblockNumber: each number exactly when its row is the first that holds
+-- ---- macroblock_number: each number exactly when its row is the first that holds
 
 module _ (k : ℕ) (frame : List ℕ) (b : ℕ) where
   pub macroblock_1 : system_of k ≡ None → 1 ≡ macroblock_number k frame b

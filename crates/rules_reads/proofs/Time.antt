@@ -47,7 +47,7 @@ settled_set y p h =
     (λ e. let same : with_bit6 p.pc1 ≡ p.pc1 = omega (arith, h e) in rw (pick_true (with_bit6 p.pc1) p.pc1 (eq-eqb _ 1 e), same) refl)
     (λ d. rw (pick_false (with_bit6 p.pc1) p.pc1 (ne_eqb _ 1 d)) refl)
 
--- ---- samePack: all five bytes
+-- ---- same_pack: all five bytes
 
 pub same_means : (p o : Pack) → same_pack p o ≡ true → p ≡ o
 unfolding same_pack
@@ -67,7 +67,7 @@ pub same_when : (p o : Pack) → p ≡ o → same_pack p o ≡ true
 unfolding same_pack
 same_when p o e = rw (e, eq-eqb o.pc0 o.pc0 refl, eq-eqb o.pc1 o.pc1 refl, eq-eqb o.pc2 o.pc2 refl, eq-eqb o.pc3 o.pc3 refl, eq-eqb o.pc4 o.pc4 refl) refl
 
--- ---- subcodeAgrees: every such pack of a sequence, by its position
+-- ---- subcode_agrees: every such pack of a sequence, by its position
 
 module _ (y : System) (time group : Pack) (q : ℕ) (part : List ℕ) where
   pub subcode_time : subcode_agrees y time group q part ≡ true → (k : ℕ) → k < 12 → kind_of (is_first y q) k ≡ TimeCode → settled y (ssyb_in k part) ≡ settled y time
@@ -82,7 +82,7 @@ module _ (y : System) (time group : Pack) (q : ℕ) (part : List ℕ) where
   unfolding subcode_agrees
   subcode_when h = below_when (λ (j : ℕ). pack_agrees y time group (kind_of (is_first y q) j) (ssyb_in j part)) 12 h
 
--- ---- timeRows: each number exactly when its row is the first that holds
+-- ---- time_rows: each number exactly when its row is the first that holds
 
 module _ (y : System) (frame : List ℕ) where
   pub time_23 : every_sequence y frame (unflagged 3) ≡ false → 23 ≡ first_of (time_rows y frame)
@@ -103,7 +103,7 @@ module _ (y : System) (frame : List ℕ) where
       unfolding time_rows first_of pick
       time_0 e = rw (unmarked, right, e) refl
 
--- ---- timeNumber
+-- ---- time_number
 
 module _ (k : ℕ) (frame : List ℕ) where
   pub time_1 : system_of k ≡ None → 1 ≡ time_number k frame

@@ -31,12 +31,12 @@ use Rattle.rules_format.proofs.Starts.{start_is, word_holds, start_one}
 use Rattle.rules_reads.proofs.Check.{rows_on}
 use Rattle.rules_reads.proofs.Audio.{audio_on, audio_mean, count_own}
 
--- ---- wordStart: document 01's own formula
+-- ---- word_start: document 01's own formula
 
 pub word_start_lem : (y : System) (c t : ℕ) → word_start y c t ≡ sound_start (sequences_of y) c t
 word_start_lem y c t = sym (start_is y c t)
 
--- ---- putSample, in any order: f is the frame before
+-- ---- put_sample, in any order: f is the frame before
 
 module _ (y : System) (c : ℕ) (c1 : 0 < c) (c8 : c < 9) (samples : List ℤ) (f : List ℕ) (whole : length f ≡ 48000 * sequences_of y) where
   abbrev pub Long : List ℕ → Type 0
@@ -121,7 +121,7 @@ module _ (y : System) (c : ℕ) (c1 : 0 < c) (c8 : c < 9) (samples : List ℤ) (
         let apart : Apart i = λ t h. (eqb-false i (word_start y c t) (high t h), eqb-false i (word_start y c t + 1) (low t h)) in
         else i apart ∙ sym (replaced_stays i apart))))
 
--- ---- replaceRows: each number exactly when its row is the first that holds
+-- ---- replace_rows: each number exactly when its row is the first that holds
 
 module _ (y : System) (frame : List ℕ) (c : ℕ) (samples : List ℤ) where
   pub replace_29 : eqb (length samples) (count_for y frame c) ≡ false → 29 ≡ first_of (replace_rows y frame c samples)
@@ -151,7 +151,7 @@ module _ (y : System) (frame : List ℕ) (c : ℕ) (samples : List ℤ) where
       let d = first_zero _ _ _ b.1 in
       (eqb-true _ _ (not-false _ a.0), not-false _ b.0, d.0)
 
--- ---- replaceNumber
+-- ---- replace_number
 
 module _ (k : ℕ) (frame : List ℕ) (c : ℕ) (samples : List ℤ) where
   pub replace_1 : system_of k ≡ None → 1 ≡ replace_number k frame c samples

@@ -158,7 +158,7 @@ module _ (k h q size : ℕ) where
       unfolding sequence_number first_of pick
       sequence_0 e = rw (known, inside, eq-eqb _ _ e) refl
 
--- ---- outsideSequences
+-- ---- outside_sequences
 
 pub inside_means : (y : System) (h q : ℕ) → outside_sequences (Some y) h q ≡ false → (h < 4) × (q < sequences_of y)
 inside_means y h q o = let both = neither (leb 4 h) (leb (sequences_of y) q) o in (leb-false _ _ both.0, leb-false _ _ both.1)

@@ -18,7 +18,7 @@ use Rattle.rules_format.specs.Stream.{blocks_in, named}
 use Rattle.rules_format.proofs.Systems.{sequences_some, sequences_le}
 use Rattle.rules_format.proofs.Blocks.{block_in_sequence}
 
--- ---- frameFaults: the blocks that do not name their place, in stream order, and all of them
+-- ---- frame_faults: the blocks that do not name their place, in stream order, and all of them
 
 pub faults_stream : (y : System) (frame : List ℕ) → frame_faults y frame ≡ unnamed y frame (blocks_in y)
 unfolding frame_faults channel_faults sequence_faults block_faults unnamed block_at

@@ -35,7 +35,7 @@ use Rattle.rules_surveys.proofs.Answering.{survey_number_lem}
 use Rattle.rules_format.proofs.Paper.{columns, by_system, fault_is}
 use Rattle.promises.proofs.One.{listed_one}
 
--- ---- blockFaults: the record of block j of the bytes, as it stands at place p of sequence q of DIF channel h
+-- ---- block_faults: the record of block j of the bytes, as it stands at place p of sequence q of DIF channel h
 
 module _ (bytes : List ℕ) (j h q p : ℕ) (room : j * 80 + 80 ≤ length bytes) where
   abbrev block : List ℕ

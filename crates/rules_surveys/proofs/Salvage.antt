@@ -52,7 +52,7 @@ module _ (y : System) (frame : List ℕ) (c t : ℕ) (c1 : 0 < c) (c8 : c < 9) (
   pub position_lost : sound_named y frame c t ≡ false → get_or (salvaged y frame) ((c - 1) * positions_of y + t) (pos 0) ≡ lost
   position_lost e = salvaged_at ∙ ap number_of (salvaged_lost y frame c t e)
 
--- ---- salvageNumber: each number exactly when its row is the first that holds
+-- ---- salvage_number: each number exactly when its row is the first that holds
 
 module _ (k : ℕ) (frame : List ℕ) (size : ℕ) where
   pub salvage_1 : system_of k ≡ None → 1 ≡ salvage_number k frame size

@@ -20,7 +20,7 @@ use Rattle.rules_format.proofs.Paper.{columns, by_system}
 use Rattle.rules_format.proofs.Numbers.{sound_named_lem, sound_within, sound_heard}
 use Rattle.rules_surveys.proofs.Listing.{block_fault}
 
--- ---- soundNamed: by the fault of the position's block
+-- ---- sound_named: by the fault of the position's block
 
 sound_fault : (y : System) (g : List ℕ) (c t : ℕ) → length g ≡ 48000 * sequences_of y → 0 < c → c < 9
     → sound_named y g c t ≡ eqb (fault_for (sequences_of y) g c t) 0

@@ -54,7 +54,7 @@ use Rattle.promises.proofs.LaidOut.{cut_part, cut_byte}
 use Rattle.rules_writes.proofs.Write.{write_1, write_takes, write_taken}
 use Rattle.rules_format.proofs.Places.{number_below}
 
--- ---- idBytes
+-- ---- id_bytes
 
 id_form_lem : (h q p : ℕ) → h < 4 → q < 16 → p < 150 → id_form h q p ≡ id_bytes (id_of h q (entry_at (place p)).section (entry_at (place p)).number.0)
 id_form_lem h q p hh hq hp =
@@ -75,7 +75,7 @@ run_cut b a w k g rest s e j h =
     ∙ take-append-le w (drop (j * w) (run g k)) rest room
     ∙ run_at w g s j k h
 
--- ---- sizeForm
+-- ---- size_form
 
 size_high : (count : ℕ) → size_form count / 64 ≡ 1
 unfolding size_form size_of

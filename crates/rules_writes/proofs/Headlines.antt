@@ -9,7 +9,6 @@ use Rattle.rules_writes.specs.Write.{Wrote, contents_of, Takes, write_number}
 use Rattle.paper.specs.declared.System.{System}
 use Rattle.rules_format.specs.Systems.{system_of}
 use Rattle.rules_writes.proofs.Write.{taken_takes, takes_taken, contents_are}
-use Rattle.paper.specs.Paper.{macroblocks}
 use Rattle.promises.specs.Demand2.{LaidOut}
 use Rattle.promises.specs.Demand1.{WriteAnswers}
 use Rattle.rules_writes.proofs.Answering

@@ -19,7 +19,7 @@ use Rattle.rules_format.specs.Samples.{all_in_range}
 use Rattle.promises.specs.Contents.{Contents}
 use Rattle.rules_writes.specs.Write.{contents_of, lengths_ok, write_number, written_frame, write_left, Wrote, Takes}
 
--- ---- contentsOf: by the writer's parameters in their order
+-- ---- contents_of: by the writer's parameters in their order
 
 pub contents_are : (count : ℕ) (sound : List ℤ) (macroblocks time group : List ℕ)
     → contents_of count sound macroblocks time group
@@ -40,7 +40,7 @@ pub write_refused : {k : ℕ} {l : Contents} {frame frame' : List ℕ} {r : ℕ}
 unfolding write_left
 write_refused {k} {l} {frame} w d = w.left ∙ pick_false _ _ (ne_eqb (write_number k l (length frame)) 0 (λ z. d (w.answer ∙ z)))
 
--- ---- writeNumber: each number exactly when its row is the first that holds
+-- ---- write_number: each number exactly when its row is the first that holds
 
 module _ (k : ℕ) (l : Contents) (size : ℕ) where
   pub write_1 : system_of k ≡ None → 1 ≡ write_number k l size
@@ -107,7 +107,7 @@ module _ (k : ℕ) (l : Contents) (size : ℕ) where
         both_hold (both_hold (both_hold (eq-eqb _ _ t.sounds) (eq-eqb _ _ t.pictures)) (eq-eqb _ _ t.times)) (eq-eqb _ _ t.groups) in
         sym (write_0 (eq-eqb _ _ t.frame) t.counts lengths t.levels t.clock)
 
--- ---- writeLeft
+-- ---- write_left
 
 -- a frame that was written is that of what was lent, which is in order
 module _ (k : ℕ) (y : System) (known : system_of k ≡ Some y) (l : Contents) (frame : List ℕ) where

@@ -128,7 +128,7 @@ module _ (y : System) (l : Contents) (h q : ℕ) (s : Section) (k : ℕ) (hh : h
   unfolding id_bytes
   frame_payload = ap (drop 3) frame_entry
 
--- ---- samplesOf: the samples of an audio channel are as many as its count
+-- ---- samples_of: the samples of an audio channel are as many as its count
 
 module _ (count : ℕ) (sound : List ℤ) (c : ℕ) (c1 : 0 < c) (c8 : c < 9) (sounds : length sound ≡ 8 * count) where
   pub samples_end : (c - 1) * count + count ≤ length sound
@@ -138,7 +138,7 @@ module _ (count : ℕ) (sound : List ℤ) (c : ℕ) (c1 : 0 < c) (c8 : c < 9) (s
   unfolding samples_of
   samples_length = length_part ((c - 1) * count) count sound samples_end
 
--- ---- audioBytes
+-- ---- audio_bytes
 
 -- byte i of word w of an audio block
 audio_byte : (y : System) (source asc : Pack) (samples : List ℤ) (q a : ℕ) (id : BlockId) (w i : ℕ) → w < 36 → i < 2
@@ -153,7 +153,7 @@ audio_byte y source asc samples q a id w i hw hi =
     ∙ get_or-append-add pack words (w * 2 + i) 0
     ∙ run_element 0 2 (word_bytes y samples q a) (word_wide y samples q a) w 36 i hw hi
 
--- ---- storedWord: the word at the place of sample t is that sample's
+-- ---- stored_word: the word at the place of sample t is that sample's
 
 -- the word of position t of audio channel c
 abbrev pub stored_word : Contents → ℕ → ℕ → ℕ
@@ -239,7 +239,7 @@ pub stored_tail : (l : Contents) (c t : ℕ) → l.count ≤ t → stored_word l
 unfolding sample_word samples_of
 stored_tail l c t ht = pick_false _ _ (le-ltb t _ (le_trans (most_taken l.count _) ht))
 
--- ---- carriedBytes: a slot holds its macroblock's 77 bytes, or FFh
+-- ---- carried_bytes: a slot holds its macroblock's 77 bytes, or FFh
 
 module _ (y : System) (l : Contents) (h q v : ℕ) (hh : h < 4) (hq : q < sequences_of y) (hv : v < 135) where
   abbrev pub picture_bytes : List ℕ

@@ -20,7 +20,7 @@ use Rattle.rules_writes.specs.Written.{sample_word, word_bytes}
 use Rattle.rules_writes.proofs.Written.{word_wide}
 use Rattle.sample_words.specs.Words.{filled_with, words_put, words_fit}
 
--- ---- wordsFit: what it says, and when it holds
+-- ---- words_fit: what it says, and when it holds
 
 module _ (size : ℕ) (y : System) (n a : ℕ) where
   pub fit_says : words_fit size y n a ≡ true → (size ≡ 72) × (a < 9) × (315 * half_of y ≤ n)
@@ -34,7 +34,7 @@ module _ (size : ℕ) (y : System) (n a : ℕ) where
   unfolding words_fit
   fit_holds e h turns = both_hold (both_hold (eq-eqb size 72 e) (lt-ltb a 9 h)) (le-leb (315 * half_of y) n turns)
 
--- ---- wordsPut: in a part that fits
+-- ---- words_put: in a part that fits
 
 word_past : (xs : List ℤ) (t : ℕ) → length xs ≤ t → 0 ≡ sample_word xs t
 unfolding sample_word

@@ -1,5 +1,4 @@
 -- `picture::carried` meets its contract: each way out. Assumes nothing.
-use Rattle.std.proofs.Common.{rules}
 use Rattle.picture.proofs.Ways.{inside, outside}
 use Rattle.picture.proofs.carried.Goals as goal
 

@@ -1,6 +1,6 @@
 -- `judges::every::every_sequence` meets its contract: the loop has judged the DIF channels below h. Assumes nothing.
 use Rattle.std.proofs.Common.{rules}
-use Rattle.judges.proofs.Turns.{channel_turn, channels_done, all_asked}
+use Rattle.judges.proofs.Turns.{channel_turn, channels_done}
 use Rattle.judges.proofs.every.every_sequence.Goals as goal
 
 pub loop-h-preserved : goal.loop-h-preserved
