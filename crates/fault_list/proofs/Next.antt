@@ -13,7 +13,6 @@ use Rattle.paper.specs.declared.System.{System}
 use Rattle.rules_format.specs.Systems.{sequences_of}
 use Rattle.rules_surveys.specs.FaultLists.{sequence_faults}
 use Rattle.rules_surveys.specs.Noting.{Noted}
-use Rattle.rules_surveys.specs.Records.{after}
 use Rattle.rules_surveys.specs.Survey.{outside_sequences}
 use Rattle.rules_format.proofs.Systems.{sequences_le}
 use Rattle.rules_surveys.proofs.Records.{noted_none}

@@ -14,7 +14,7 @@ use Rattle.paper.specs.declared.Entry.{Entry}
 use Rattle.paper.specs.declared.Place.{Place}
 use Rattle.paper.specs.declared.IdAnswer.{IdAnswer}
 use Rattle.paper.specs.declared.Fault.{Fault}
-use Rattle.rules_format.specs.Places.{place, entry_at}
+use Rattle.rules_format.specs.Places.{entry_at}
 use Rattle.rules_format.specs.Blocks.{block_in}
 use Rattle.rules_format.specs.Faults.{fault_at, fault_of}
 use Rattle.rules_surveys.specs.FaultLists.{block_faults, place_faults, sequence_faults}

@@ -11,11 +11,7 @@ use paper::IdAnswer;
 fn is_named(id: IdAnswer) -> bool
     ensures { result ≡ is_named id }
 {
-    match id {
-        IdAnswer::Named(_, _) => true,
-        IdAnswer::Reserved => false,
-        IdAnswer::WrongLength => false,
-    }
+    matches!(id, IdAnswer::Named(_, _))
 }
 
 // Whether every block is named and the judged bits of its ID are its place's. No early return, and the bits are asked before the
@@ -27,15 +23,13 @@ pub(crate) fn clean_part(part: &[u8], h: u32, q: u32) -> bool
     let table = layout::printed_places();
     let key = judged_bits::key(h, q);
     let mut good = true;
-    let mut p: u32 = 0;
-    while p < PLACES {
+    for p in 0..PLACES {
         let i = p as usize;
         let at = i * BLOCK;
         let block = &part[at..at + BLOCK];
         let bits = judged_bits::judged(block);
         let named = is_named(layout::read_block(block));
         good = good & (named & (bits == table[i] + key));
-        p += 1;
     }
     good
 }

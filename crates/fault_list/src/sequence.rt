@@ -53,8 +53,7 @@ pub(crate) fn survey_part(part: &[u8], h: u32, q: u32, list: &mut [u32], t: u32)
     let table = layout::printed_places();
     let key = judged_bits::key(h, q);
     let mut total = t;
-    let mut p: u32 = 0;
-    while p < PLACES {
+    for p in 0..PLACES {
         let i = p as usize;
         let at = i * BLOCK;
         total = survey_block(
@@ -67,7 +66,6 @@ pub(crate) fn survey_part(part: &[u8], h: u32, q: u32, list: &mut [u32], t: u32)
             list,
             total,
         );
-        p += 1;
     }
     total
 }

@@ -14,13 +14,11 @@ fn clean_part(part: &[u8], h: u32, q: u32) -> bool
     let table = layout::printed_places();
     let key = judged_bits::key(h, q);
     let mut good = true;
-    let mut p: u32 = 0;
-    while p < PLACES {
+    for p in 0..PLACES {
         let i = p as usize;
         let at = i * BLOCK;
         let bits = judged_bits::judged(&part[at..at + BLOCK]);
         good = good & (bits == table[i] + key);
-        p += 1;
     }
     good
 }

@@ -125,7 +125,7 @@ module _ (s : ℕ) (f : ℕ → ℤ) where
       let e : 9 * (r + 1) ≡ 9 * r + 9 = omega arith in
       rw e (between_next s 0 (9 * r) (9 * r + 9) f before mid now (omega arith) (omega arith) p n)
 
-module _ (frame : List ℕ) (y : System) (i r m : ℕ) (em : m ≡ half_of y) (le : r ≤ half_of y) (ge : m ≤ r) (before now : List ℤ)
+module _ (frame : List ℕ) (y : System) (i r m : ℕ) (em : m ≡ half_of y) (le : r ≤ m) (ge : m ≤ r) (before now : List ℤ)
     (p : Between (half_of y) 0 (9 * r) (held_sample y frame (i + 1)) before now) where
   r_is : r ≡ half_of y
   r_is = omega arith

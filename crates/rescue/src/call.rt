@@ -13,12 +13,10 @@ fn salvage_all(frame: &[u8], y: System, samples: &mut [i32], list: &mut [u32]) -
 {
     let size = layout::positions(y) as usize;
     let mut total: u32 = 0;
-    let mut i: u32 = 0;
-    while i < 8 {
+    for i in 0..8u32 {
         let at = (i as usize) * size;
         let to = at + size;
         total = half::salvage_half(frame, y, i, &mut samples[at..to], list, total);
-        i += 1;
     }
     total
 }

@@ -54,10 +54,8 @@ fn take_half(frame: &[u8], y: System, i: u32, samples: &mut [i32])
     requires samples_len_bound { length samples.old ≤ positions_of y }
     ensures { Between (half_of y) 0 (9 * half_of y) (held_sample y frame.now (i + 1)) samples.old samples.new }
 {
-    let mut r: u32 = 0;
-    while r < layout::half(y) {
+    for r in 0..layout::half(y) {
         take_rank(frame, y, i, r, samples);
-        r += 1;
     }
 }
 
@@ -75,11 +73,9 @@ pub(crate) fn salvage_half(
     ensures { HalfSalvaged y frame.now i t samples.old samples.new list.old list.new result }
 {
     let mut total = t;
-    let mut r: u32 = 0;
-    while r < layout::half(y) {
+    for r in 0..layout::half(y) {
         total = survey_rank(frame, y, i, r, list, total);
         take_rank(frame, y, i, r, samples);
-        r += 1;
     }
     total
 }

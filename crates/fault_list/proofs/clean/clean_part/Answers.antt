@@ -1,18 +1,16 @@
 -- `fault_list::clean::clean_part` meets its contract: where the flag holds, no place below p has a fault. Assumes nothing.
-use Prim.Native.Nat.{◌-◌}
-use native.Mathlib.Omega.{arith}
 use borrow.Author.Rules.{rules}
 use Rattle.judged_bits.proofs.Clear.{clean_start, bits_fit, clean_named, clean_places}
 use Rattle.fault_list.proofs.clean.clean_part.Goals as goal
 
 pub loop-p-init : goal.loop-p-init
-loop-p-init c = (clean_start _, omega arith)
+loop-p-init c = clean_start _
 
 pub overflow_add-good : goal.overflow_add-good
 overflow_add-good c = search (bits_fit, rules)
 
 pub loop-p-preserved : goal.loop-p-preserved
-loop-p-preserved c = (search (clean_named, rules), omega arith)
+loop-p-preserved c = search (clean_named, rules)
 
 pub returns : goal.returns
 returns c = search (clean_places, rules)

@@ -1,6 +1,4 @@
 -- `fault_list::sequence::survey_part` meets its contract: the loop has noted the faults of the places below p. Assumes nothing.
-use Prim.Native.Nat.{◌-◌}
-use native.Mathlib.Omega.{arith}
 use borrow.Author.Rules.{rules}
 use Rattle.rules_surveys.proofs.Records.{noted_start, noted_length}
 use Rattle.judged_bits.proofs.Clear.{place_asked}
@@ -8,13 +6,13 @@ use Rattle.fault_list.proofs.Noting.{block_few, place_turn, places_done}
 use Rattle.fault_list.proofs.sequence.survey_part.Goals as goal
 
 pub loop-p-init : goal.loop-p-init
-loop-p-init c = (omega arith, noted_start _ _ _)
+loop-p-init c = noted_start _ _ _
 
 pub survey_block-total-requires : goal.survey_block-total-requires
 survey_block-total-requires c = search (place_asked, block_few, rules)
 
 pub loop-p-preserved : goal.loop-p-preserved
-loop-p-preserved c = (omega arith, search (place_turn, rules))
+loop-p-preserved c = search (place_turn, rules)
 
 pub shape_of-list : goal.shape_of-list
 shape_of-list c = search (noted_length, rules)

@@ -1,14 +1,12 @@
 -- `rescue::call::salvage_all` meets its contract: the first audio channels are taken and their faults noted, and the rest is as it was. Assumes nothing.
 use mathlib.Core.Path.{refl}
-use Prim.Native.Nat.{◌-◌}
-use native.Mathlib.Omega.{arith}
 use borrow.Author.Rules.{rules}
 use Rattle.rules_surveys.proofs.Records.{noted_start, noted_length}
 use Rattle.rescue.proofs.Whole.{all_none, end_fits, start_fits, bytes_fit, half_within, half_room, half_filled, half_asked, half_noted, all_salvaged}
 use Rattle.rescue.proofs.call.salvage_all.Goals as goal
 
 pub loop-i-init : goal.loop-i-init
-loop-i-init c = (all_none _ _ c.positions-size.result _, noted_start _ _ _, refl, omega arith)
+loop-i-init c = (all_none _ _ c.positions-size.result _, noted_start _ _ _, refl)
 
 pub overflow_mul-at : goal.overflow_mul-at
 overflow_mul-at c = search (start_fits, rules)
@@ -26,7 +24,7 @@ pub salvage_half-total-requires : goal.salvage_half-total-requires
 salvage_half-total-requires c = record { half_asked = search (half_asked, rules); samples_len_bound = search (half_room, rules) }
 
 pub loop-i-preserved : goal.loop-i-preserved
-loop-i-preserved c = (search (half_filled, rules), search (half_noted, rules), search rules, search rules)
+loop-i-preserved c = (search (half_filled, rules), search (half_noted, rules), search rules)
 
 pub shape_of-list : goal.shape_of-list
 shape_of-list c = search (noted_length, rules)

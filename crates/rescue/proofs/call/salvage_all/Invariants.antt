@@ -1,5 +1,4 @@
 use mathlib.Core.Path.{◌≡◌}
-use Prim.Native.Nat.{◌-◌, ◌≤◌}
 use lib.ListN.{length}
 use Rattle.base.specs.Run.{run}
 use Rattle.base.proofs.Filling.{Filled}
@@ -8,7 +7,4 @@ use Rattle.rescue.specs.Taken.{half_samples, half_faults}
 use Rattle.rescue.proofs.call.salvage_all.Given as goal
 
 abbrev pub invariant-loop-i : goal.invariant-loop-i
-invariant-loop-i l = Filled l.size (half_samples l.y l.frame) l.i l.initial.samples l.samples × Noted l.initial.list 0 (run (half_faults l.y l.frame) l.i) l.list l.total × (length l.samples ≡ length l.initial.samples) × (l.i ≤ 8)
-
-abbrev pub decreases-loop-i : goal.decreases-loop-i
-decreases-loop-i l = 8 - l.i
+invariant-loop-i l = Filled l.size (half_samples l.y l.frame) l.i l.initial.samples l.samples × Noted l.initial.list 0 (run (half_faults l.y l.frame) l.i) l.list l.total × (length l.samples ≡ length l.initial.samples)
