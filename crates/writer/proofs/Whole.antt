@@ -365,9 +365,9 @@ module _ (y : System) (h q : ℕ) (m : Material) (d xs : List ℕ) (ex : Filled 
   pub channel_turn : (ys : List ℕ) → ys ≡ written_sequence y m h q → Filled 12000 (written_sequence y m h) (q + 1) d (put_mid (q * 12000) (q * 12000 + 12000 - q * 12000) xs ys)
   channel_turn ys ey = filled_next 12000 (written_sequence y m h) (sequence_wide y m h) q d xs ys ex ey
 
-  pub channel_done : (n : ℕ) → n ≡ sequences_of y → length d ≡ sequences_of y * 12000 → q ≤ sequences_of y → n ≤ q → xs ≡ written_channel y m h
+  pub channel_done : (n : ℕ) → n ≡ sequences_of y → length d ≡ sequences_of y * 12000 → q ≤ n → n ≤ q → xs ≡ written_channel y m h
   unfolding written_channel
-  channel_done n en len le ge = filled_end 12000 (written_sequence y m h) q (sequences_of y) d xs ex len le (omega arith)
+  channel_done n en len le ge = filled_end 12000 (written_sequence y m h) q (sequences_of y) d xs ex len (omega arith) (omega arith)
 
 -- sequence q of n is within the channel's part
 module _ (y : System) (q n : ℕ) (en : n ≡ sequences_of y) (hq : q < n) where

@@ -20,8 +20,7 @@ fn write_channel(
     requires { ChannelPartAsked part.old y h count sound.now macroblocks.now }
     ensures { part.new ≡ written_channel y (material_of repeated count sound.now macroblocks.now) h }
 {
-    let mut q: u32 = 0;
-    while q < layout::sequences(y) {
+    for q in 0..layout::sequences(y) {
         let at = (q as usize) * SEQUENCE;
         let to = at + SEQUENCE;
         sequence::write_sequence(
@@ -34,7 +33,6 @@ fn write_channel(
             sound,
             macroblocks,
         );
-        q += 1;
     }
 }
 
@@ -50,8 +48,7 @@ pub(crate) fn fill_frame(
     ensures { frame.new ≡ run (written_channel y (material_of repeated count sound.now macroblocks.now)) 4 }
 {
     let size = (layout::sequences(y) as usize) * SEQUENCE;
-    let mut h: u32 = 0;
-    while h < CHANNELS {
+    for h in 0..CHANNELS {
         let at = (h as usize) * size;
         let to = at + size;
         write_channel(
@@ -63,6 +60,5 @@ pub(crate) fn fill_frame(
             sound,
             macroblocks,
         );
-        h += 1;
     }
 }

@@ -41,8 +41,7 @@ fn write_subcodes(part: &mut [u8], y: System, h: u32, q: u32, said: SubcodeData)
     requires { length part.old ≡ 160 }
     ensures { part.new ≡ first_blocks h q Section.Subcode (subcode_bytes (is_first y q) said) 2 }
 {
-    let mut k: u32 = 0;
-    while k < 2 {
+    for k in 0..2 {
         let at = (k as usize) * BLOCK;
         let to = at + BLOCK;
         blocks::put_subcode(
@@ -51,7 +50,6 @@ fn write_subcodes(part: &mut [u8], y: System, h: u32, q: u32, said: SubcodeData)
             q < layout::half(y),
             said,
         );
-        k += 1;
     }
 }
 
@@ -60,12 +58,10 @@ fn write_vauxes(part: &mut [u8], h: u32, q: u32, vs: Pack, vsc: Pack)
     requires { length part.old ≡ 240 }
     ensures { part.new ≡ first_blocks h q Section.Vaux (vaux_bytes vs vsc q) 3 }
 {
-    let mut k: u32 = 0;
-    while k < 3 {
+    for k in 0..3 {
         let at = (k as usize) * BLOCK;
         let to = at + BLOCK;
         blocks::put_vaux(&mut part[at..to], id(h, q, Section::Vaux, k), vs, vsc);
-        k += 1;
     }
 }
 
@@ -87,8 +83,7 @@ fn write_videos(part: &mut [u8], y: System, h: u32, q: u32, v: u32, macroblocks:
     requires { VideosAsked part.old y macroblocks.now v }
     ensures { part.new ≡ video_blocks y macroblocks.now h q v }
 {
-    let mut j: u32 = 0;
-    while j < 15 {
+    for j in 0..15 {
         let at = (j as usize) * BLOCK;
         let to = at + BLOCK;
         blocks::put_video(
@@ -97,7 +92,6 @@ fn write_videos(part: &mut [u8], y: System, h: u32, q: u32, v: u32, macroblocks:
             y,
             macroblocks,
         );
-        j += 1;
     }
 }
 
@@ -150,8 +144,7 @@ fn write_banks(
     requires { BanksAsked part.old 12000 y samples.now macroblocks.now }
     ensures { part.new ≡ take 480 part.old ++ run (bank_blocks y source asc samples.now macroblocks.now h q) 9 }
 {
-    let mut a: u32 = 0;
-    while a < 9 {
+    for a in 0..9 {
         let p = layout::place_in(Section::Audio, BlockNumber(a));
         let at = p.0 as usize * BLOCK;
         let to = at + BANK;
@@ -166,7 +159,6 @@ fn write_banks(
             samples,
             macroblocks,
         );
-        a += 1;
     }
 }
 
