@@ -5,4 +5,4 @@ use Rattle.rules_writes.specs.Written.{material_of, written_channel}
 use Rattle.writer.proofs.frame.fill_frame.Given as goal
 
 abbrev pub invariant-loop-h : goal.invariant-loop-h
-invariant-loop-h l = Filled (sequences_of l.y * 12000) (written_channel l.y (material_of l.repeated l.count l.sound l.macroblocks)) l.h l.initial.frame l.frame
+invariant-loop-h l = Filled (sequences_of l.m.system * 12000) (written_channel l.m.system (material_of l.m.repeated l.m.count l.m.sound.now l.m.macroblocks.now)) l.h l.initial.frame l.frame
