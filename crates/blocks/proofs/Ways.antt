@@ -3,19 +3,17 @@ use Rattle.std.specs.Prelude.{Option, Some, None}
 use mathlib.Core.Path.{◌≡◌, refl, sym, ap, ◌∙◌}
 use mathlib.Core.Bool.{Bool}
 use mathlib.Core.List.{List, [], ◌∷◌, ◌++◌, append-nil}
-use Prim.Native.Nat.{ℕ, ◌+◌, ◌-◌, ◌*◌, ◌≤◌, ◌<◌}
-use native.Mathlib.Nat.{le_antisymm, zero-add}
-use native.Mathlib.Numerals.{add-one}
+use Prim.Native.Nat.{ℕ, ◌+◌, ◌-◌, ◌*◌, ◌≤◌}
 use native.Mathlib.Omega.{arith}
 use lib.IntN.{ℤ}
-use lib.ListN.{length, take, drop, get_or, set, replicate, length-append}
-use lib.Seq.{length-take-le, drop_at, drop-drop, take_all, paste-suc}
+use lib.ListN.{length, take, drop, replicate, length-append}
+use lib.Seq.{length-take-le, drop_at, drop-drop}
 use borrow.Rule.Slice.PartMut.{put_mid, post_of}
 use Rattle.base.specs.Pick.{pick}
 use Rattle.base.specs.Run.{run}
 use Rattle.base.proofs.Runs.{tab_part}
 use Rattle.base.proofs.Filling.{Filled, filled_next, filled_end}
-use Rattle.base.proofs.Parts.{length_part, range_part, none_left, all_set}
+use Rattle.base.proofs.Parts.{length_part, range_part, none_left}
 use Rattle.paper.specs.declared.System.{System}
 use Rattle.paper.specs.declared.BlockId.{BlockId}
 use Rattle.paper.specs.declared.Pack.{Pack}
@@ -34,20 +32,6 @@ use Rattle.rules_packs.proofs.Subcode.{ssyb_length}
 use Rattle.sample_words.specs.Words.{words_put, words_fit}
 use Rattle.sample_words.proofs.Words.{put_fits, put_all}
 use Rattle.blocks.specs.Asked.{AudioAsked, VideoAsked}
-
--- ---- the first bytes of a list, stored one after the other
-
-pub three_set : (xs : List ℕ) (a b c : ℕ) → length xs ≡ 3 → set (set (set xs 0 a) 1 b) 2 c ≡ a ∷ b ∷ c ∷ []
-three_set xs a b c = all_set xs (a ∷ b ∷ c ∷ [])
-
-pub five_set : (xs : List ℕ) (a b c d e : ℕ) → length xs ≡ 5 → set (set (set (set (set xs 0 a) 1 b) 2 c) 3 d) 4 e ≡ a ∷ b ∷ c ∷ d ∷ e ∷ []
-five_set xs a b c d e = all_set xs (a ∷ b ∷ c ∷ d ∷ e ∷ [])
-
--- ---- parts
-
-pub id_put : (zs bytes : List ℕ) (id : BlockId) → bytes ≡ id_bytes id → zs ≡ get_or bytes 0 0 ∷ get_or bytes 1 0 ∷ get_or bytes 2 0 ∷ [] → zs ≡ id_bytes id
-unfolding id_bytes
-id_put zs bytes id e ez = ez ∙ rw e refl
 
 -- ---- the header
 
@@ -128,22 +112,6 @@ module _ (xs : List ℕ) (y : System) (samples : List ℤ) (a : ℕ) (asked : Au
       rw (ez, eps, rest, append-nil, ew, ep) refl
 
 -- ---- video
-
--- a turn of the copy, and its end
-pub copy_turn : (s d xs : List ℕ) (i : ℕ) → xs ≡ take i s ++ drop i d → length s ≡ 77 → length d ≡ 77 → i < 77 → set xs i (get_or s i 0) ≡ take (i + 1) s ++ drop (i + 1) d
-copy_turn s d xs i e n m h =
-    let hs : i < length s = omega arith in
-    let hd : 0 + i < length d = omega arith in
-    rw (e, add-one) (simp zero-add at (paste-suc d 0 s i 0 hd hs))
-
-pub copy_next : (s d xs : List ℕ) (i : ℕ) → xs ≡ take i s ++ drop i d → length s ≡ 77 → length d ≡ 77 → i < 76 → set xs i (get_or s i 0) ≡ take (i + 1) s ++ drop (i + 1) d
-copy_next s d xs i e n m h = copy_turn s d xs i e n m (omega arith)
-
-pub copy_done : (s d xs : List ℕ) (i : ℕ) → xs ≡ take i s ++ drop i d → length s ≡ 77 → length d ≡ 77 → i ≤ 76 → 76 ≤ i → set xs 76 (get_or s 76 0) ≡ s
-copy_done s d xs i e n m le ge =
-    let same : i ≡ 76 = le_antisymm le ge in
-    let all : take 77 s ≡ s = take_all 77 s (omega arith) in
-    copy_turn s d xs 76 (e ∙ rw same refl) n m (omega arith) ∙ rw (all, none_left 77 d m) (append-nil s)
 
 module _ (xs : List ℕ) (y : System) (h q v : ℕ) (macroblocks : List ℕ) (asked : VideoAsked xs y macroblocks) (r : Option ℕ) (er : r ≡ carried_in y (slot h q v)) where
   -- the macroblock that is carried is within those that are lent

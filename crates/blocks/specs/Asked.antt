@@ -26,10 +26,6 @@ pub record AudioAsked (part : List ℕ) (size : ℕ) (y : System) (samples : Lis
   pub below : a < 9
   pub turns : 315 * half_of y ≤ length samples
 
-pub record CopyAsked (part from : List ℕ) : Type 0 where
-  pub long : length part ≡ 77
-  pub same : length from ≡ 77
-
 pub record VideoAsked (block : List ℕ) (y : System) (macroblocks : List ℕ) : Type 0 where
   pub long : length block ≡ 80
   pub pictures : length macroblocks ≡ 77 * macroblocks_of y

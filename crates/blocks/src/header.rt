@@ -26,7 +26,7 @@ fn write_header(block: &mut [u8], id: BlockId, y: System)
 {
     base::fill(block, 0xFF);
     parts::put_id(&mut block[0..3], id);
-    parts::put_five(&mut block[3..8], rate_byte(y), 0xFF, 0x7F, 0x7F, 0x7F);
+    block[3..8].copy_from_slice(&[rate_byte(y), 0xFF, 0x7F, 0x7F, 0x7F]);
 }
 
 // The header of any part; one that is no block stays as it is.

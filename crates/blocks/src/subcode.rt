@@ -21,7 +21,7 @@ fn put_ssyb(part: &mut [u8], first: bool, said: SubcodeData, k: u32)
     requires { SsybAsked part.old k }
     ensures { part.new ≡ ssyb first said k }
 {
-    parts::put_three(&mut part[0..3], fr_byte(first), (0xF0 + k) as u8, 0xFF);
+    part[0..3].copy_from_slice(&[fr_byte(first), (0xF0 + k) as u8, 0xFF]);
     parts::put_pack(
         &mut part[3..8],
         packs::subcode_pack(packs::kind_of(first, k), said.time, said.group),
@@ -34,12 +34,10 @@ fn put_ssybs(part: &mut [u8], first: bool, said: SubcodeData, number: BlockNumbe
     ensures { part.new ≡ ssybs first said number.0 }
 {
     let k = number.0;
-    let mut j: u32 = 0;
-    while j < 6 {
+    for j in 0..6 {
         let at = (j as usize) * 8;
         let to = at + 8;
         put_ssyb(&mut part[at..to], first, said, 6 * k + j);
-        j += 1;
     }
 }
 

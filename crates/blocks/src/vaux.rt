@@ -16,12 +16,10 @@ fn put_packs(part: &mut [u8], vs: Pack, vsc: Pack, q: u32, number: BlockNumber)
     ensures { part.new ≡ vaux_packs vs vsc q number.0 }
 {
     let k = number.0;
-    let mut j: u32 = 0;
-    while j < 15 {
+    for j in 0..15 {
         let at = (j as usize) * 5;
         let to = at + 5;
         parts::put_pack(&mut part[at..to], packs::vaux_pack(vs, vsc, q, 15 * k + j));
-        j += 1;
     }
 }
 

@@ -3,25 +3,12 @@ ghost use Rattle.std.specs.Prelude.{◌≡◌, ◌++◌, length};
 ghost use Rattle.base.specs.Pick.{pick};
 ghost use Rattle.rules_format.specs.Ids.{id_bytes};
 ghost use Rattle.rules_writes.specs.Written.{video_bytes};
-ghost use Rattle.blocks.specs.Asked.{CopyAsked, VideoAsked};
+ghost use Rattle.blocks.specs.Asked.{VideoAsked};
 ghost use Rattle.blocks.specs.Fits.{video_fits};
 
 use crate::parts;
 use layout::BLOCK;
 use paper::{BlockId, System};
-
-// 77 bytes from one part to another. The length is written out and the odd byte stands by itself, for the sake of the loop.
-fn copy_macroblock(part: &mut [u8], from: &[u8])
-    requires { CopyAsked part.old from.now }
-    ensures { part.new ≡ from.now }
-{
-    let mut i = 0;
-    while i < 76 {
-        part[i] = from[i];
-        i += 1;
-    }
-    part[76] = from[76];
-}
 
 fn write_video(block: &mut [u8], id: BlockId, y: System, macroblocks: &[u8])
     requires { VideoAsked block.old y macroblocks.now }
@@ -32,7 +19,7 @@ fn write_video(block: &mut [u8], id: BlockId, y: System, macroblocks: &[u8])
         Some(b) => {
             let at = 77 * (b as usize);
             let to = at + 77;
-            copy_macroblock(&mut block[3..BLOCK], &macroblocks[at..to]);
+            block[3..BLOCK].copy_from_slice(&macroblocks[at..to]);
         }
         None => base::fill(&mut block[3..BLOCK], 0xFF),
     }

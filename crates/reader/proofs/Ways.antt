@@ -7,13 +7,12 @@ use Prim.Native.Nat.{ℕ, ◌+◌, ◌*◌, ◌-◌, ◌≤◌, ◌<◌}
 use native.Mathlib.Omega.{arith}
 use lib.Dec.{eqb, ltb, leb}
 use lib.IntN.{ℤ}
-use lib.ListN.{length, take, drop, set, replicate}
+use lib.ListN.{length, take, drop, replicate}
 use lib.Seq.{length-take-le}
 use borrow.Author.Tests.{eq-eqb, le-leb, ltb-true}
 use Rattle.base.specs.Pick.{pick}
 use Rattle.base.specs.Run.{tab}
 use Rattle.base.proofs.Cases.{by_bool}
-use Rattle.base.proofs.Filling.{fill_turn, fill_end}
 use Rattle.base.proofs.Parts.{range_part}
 use Rattle.base.proofs.Picks.{pick_true, pick_false, both_held, both_hold}
 use Rattle.base.proofs.Runs.{tab_same, tab_constant}
@@ -23,7 +22,6 @@ use Rattle.paper.specs.declared.BlockNumber.{BlockNumber}
 use Rattle.paper.specs.declared.Place.{Place}
 use Rattle.paper.specs.declared.Part.{Part}
 use Rattle.paper.specs.declared.Pack.{Pack}
-use Rattle.paper.specs.declared.Sample.TheVariants.{Lost}
 use Rattle.paper.specs.declared.Slot.{Slot}
 use Rattle.paper.specs.declared.AudioAnswer.{AudioAnswer}
 use Rattle.paper.specs.declared.TimeAnswer.{TimeAnswer}
@@ -128,16 +126,6 @@ module _ (k : ℕ) (frame : List ℕ) (s : Option System) (es : s ≡ system_of 
 -- a prefix that is lent has its length
 pub prefix_lent : (n : ℕ) (list : List ℤ) → n ≤ length list → n ≡ length (take n list)
 prefix_lent n list h = sym (length-take-le n list h)
-
--- ---- lose
-
--- a turn: one more entry is lost
-pub lost_turn : (d xs : List ℤ) (x : ℤ) (i : ℕ) → x ≡ number_of Lost → xs ≡ replicate i lost ++ drop i d → length xs ≡ length d → i < length xs
-    → set xs i x ≡ replicate (i + 1) lost ++ drop (i + 1) d
-lost_turn d xs x i ex e n h = rw ex (fill_turn lost d xs i e n h)
-
-pub lost_end : (d xs : List ℤ) (i : ℕ) → xs ≡ replicate i lost ++ drop i d → length xs ≡ length d → i ≤ length d → length xs ≤ i → xs ≡ replicate (length d) lost
-lost_end = fill_end lost
 
 -- ---- hear
 

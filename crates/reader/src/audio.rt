@@ -17,26 +17,15 @@ fn refused(number: u32) -> AudioAnswer
     }
 }
 
-// Every entry becomes lost.
-fn lose(samples: &mut [i32])
-    ensures { samples.new ≡ replicate (length samples.old) lost }
-{
-    let mut i = 0;
-    while i < samples.len() {
-        samples[i] = sound::number_of(Sample::Lost);
-        i += 1;
-    }
-}
-
 // The first samples of an audio channel, as many as are lent; all of them lost where it is marked 1111.
 fn hear(y: System, frame: &[u8], audio: u32, marked: bool, samples: &mut [i32])
     ensures { samples.new ≡ pick marked (replicate (length samples.old) lost) (samples_left y frame.now audio samples.old) }
 {
     if marked {
-        lose(samples);
-        return;
+        samples.fill(sound::number_of(Sample::Lost));
+    } else {
+        rescue::samples_of(y, frame, audio, samples);
     }
-    rescue::samples_of(y, frame, audio, samples);
 }
 
 // The samples of an audio channel, and their count. Refusals: 1, 2, 3, 4, the frame check's, 23, 24, 25.

@@ -24,13 +24,11 @@ fn replace_sequence(part: &mut [u8], y: System, samples: &[i32], r: u32)
     requires { PartAsked part.old y samples.now }
     ensures { part.new ≡ turns (block_turn y samples.now r) 9 part.old }
 {
-    let mut a: u32 = 0;
-    while a < 9 {
+    for a in 0..9 {
         let p = layout::place_in(Section::Audio, BlockNumber(a));
         let at = p.0 as usize * BLOCK;
         let to = at + BLOCK;
         replace_block(&mut part[at..to], y, samples, r, BlockNumber(a));
-        a += 1;
     }
 }
 
@@ -47,12 +45,10 @@ fn replace_channel(frame: &mut [u8], y: System, i: u32, samples: &[i32])
     requires { FrameAsked frame.old y i samples.now }
     ensures { frame.new ≡ turns (rank_turn y i samples.now) (half_of y) frame.old }
 {
-    let mut r: u32 = 0;
-    while r < layout::half(y) {
+    for r in 0..layout::half(y) {
         let at = rank_start(y, i, r);
         let to = at + SEQUENCE;
         replace_sequence(&mut frame[at..to], y, samples, r);
-        r += 1;
     }
 }
 

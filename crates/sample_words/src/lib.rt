@@ -24,14 +24,12 @@ fn put_words(part: &mut [u8], samples: &[i32], first: usize, step: usize)
     ensures { part.new ≡ pairs_put samples.now first step part.old }
 {
     let mut t = first;
-    let mut w = 0;
-    while w < 35 {
+    for w in 0..35 {
         let at = w * 2;
         let to = at + 2;
         let x = samples[t];
         put_word(&mut part[at..to], sound::word_for(x));
         t += step;
-        w += 1;
     }
     if t < samples.len() {
         let x = samples[t];

@@ -15,10 +15,7 @@ use paper::{BlockNumber, Entry, Sample, Section, System};
 fn or_lost(named: bool, s: Sample) -> Sample
     ensures { result ≡ pick named s Sample.Lost }
 {
-    if named {
-        return s;
-    }
-    Sample::Lost
+    if named { s } else { Sample::Lost }
 }
 
 // The words of a block: its samples are `step` apart, as many as there is room for.
@@ -58,12 +55,10 @@ fn take_part(part: &[u8], y: System, h: u32, q: u32, samples: &mut [i32])
     requires { PartAsked part.now y (length samples.old) }
     ensures { Between (half_of y) (9 * rank_at (half_of y) q) (9 * rank_at (half_of y) q + 9) (held_part (half_of y) part.now h q) samples.old samples.new }
 {
-    let mut a: u32 = 0;
-    while a < 9 {
+    for a in 0..9 {
         let p = layout::place_in(Section::Audio, BlockNumber(a));
         let at = p.0 as usize * BLOCK;
         take_block(&part[at..at + BLOCK], y, h, q, BlockNumber(a), samples);
-        a += 1;
     }
 }
 

@@ -1,7 +1,6 @@
 // Samples: the numbers of lent slices, the words of audio blocks, and which sample stands where.
 #![tactic(auto)]
 
-mod levels;
 mod places;
 mod range;
 mod samples;

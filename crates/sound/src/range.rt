@@ -14,11 +14,8 @@ pub fn all_in_range(numbers: &[i32]) -> bool
     ensures { result ≡ all_in_range numbers.now }
 {
     let mut good = true;
-    let mut i = 0;
-    while i < numbers.len() {
-        let x = numbers[i];
-        good = good & in_range(x);
-        i += 1;
+    for x in numbers {
+        good &= in_range(*x);
     }
     good
 }

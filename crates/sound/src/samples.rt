@@ -2,7 +2,7 @@
 ghost use Rattle.std.specs.Prelude.{◌≡◌, get_or, ◌+◌, ◌*◌};
 ghost use Rattle.rules_format.specs.Samples.{number_of, sample_in, sample_of, word_of, word_for};
 
-use crate::{levels, range};
+use crate::range;
 use paper::Sample;
 
 // The sample of a number.
@@ -10,12 +10,12 @@ fn sample_in(x: i32) -> Option<Sample>
     ensures { result ≡ sample_in x }
 {
     if !range::in_range(x) {
-        return None;
+        None
+    } else if x == 32768 {
+        Some(Sample::Lost)
+    } else {
+        Some(Sample::Level(x as i16))
     }
-    if x == 32768 {
-        return Some(Sample::Lost);
-    }
-    Some(Sample::Level(x as i16))
 }
 
 // The number of a sample.
@@ -36,7 +36,7 @@ pub fn sample_of(high: u8, low: u8) -> Sample
     if word == 0x8000 {
         Sample::Lost
     } else {
-        Sample::Level(levels::level_of(word))
+        Sample::Level(word.cast_signed())
     }
 }
 
@@ -46,7 +46,7 @@ fn word_of(s: Sample) -> u32
 {
     match s {
         Sample::Level(z) => {
-            let bits = levels::bits_of(z) as u32;
+            let bits = z.cast_unsigned() as u32;
             if bits == 0x8000 { 0x8001 } else { bits }
         }
         Sample::Lost => 0x8000,

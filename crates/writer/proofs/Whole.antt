@@ -29,7 +29,7 @@ use Rattle.paper.specs.declared.BlockId.{BlockId}
 use Rattle.paper.specs.declared.Pack.{Pack}
 use Rattle.paper.specs.declared.SubcodeData.{SubcodeData}
 use Rattle.paper.specs.declared.Repeated.{Repeated}
-use Rattle.rules_format.specs.Systems.{sequences_of, half_of, system_of}
+use Rattle.rules_format.specs.Systems.{sequences_of, half_of, is_count, macroblocks_of, system_of}
 use Rattle.rules_format.specs.Places.{blocks_of, place, entry_at, place_in, place_for}
 use Rattle.rules_format.specs.Ids.{id_bytes, id_of}
 use Rattle.rules_format.specs.Sound.{audio_at}
@@ -40,7 +40,7 @@ use Rattle.rules_packs.specs.Aaux.{as_pack}
 use Rattle.rules_packs.specs.Repeated.{repeated_of}
 use Rattle.promises.specs.Contents.{Contents}
 use Rattle.rules_writes.specs.Written.{samples_of, audio_bytes, video_bytes, Material, material_of, payload, written_block, written_sequence, written_channel}
-use Rattle.rules_writes.specs.Write.{contents_of, written_frame, write_number, Wrote}
+use Rattle.rules_writes.specs.Write.{Takes, contents_of, written_frame, write_number, Wrote}
 use Rattle.rules_format.proofs.Systems.{sequences_le, half_cases, half_twice, count_below, count_turns, positions_le}
 use Rattle.rules_format.proofs.Places.{entry_place_in, place_for_lem, place_for_past}
 use Rattle.rules_format.proofs.Sound.{Half, audio_within}
@@ -51,7 +51,7 @@ use Rattle.rules_writes.proofs.Written
 use Rattle.rules_writes.proofs.Written.{audio_length, video_length, block_entry, sequence_wide, channel_wide, samples_end, samples_length}
 use Rattle.rules_writes.proofs.Write.{write_1, taken_takes, write_stopped, write_done}
 use Rattle.blocks.specs.Fits.{number_fits, audio_fits, video_fits}
-use Rattle.writer.specs.Asked.{ChannelAsked, SamplesAsked, VideosAsked, BanksAsked, BankAsked, SequenceAsked, ChannelPartAsked, FrameAsked}
+use Rattle.writer.specs.Asked.{ChannelAsked, SamplesAsked, VideosAsked, BankAsked, SequenceAsked, ChannelPartAsked}
 use Rattle.writer.specs.Blocks.{section_block, first_blocks, head_blocks, video_blocks, bank_blocks}
 
 -- ---- parts that are lent one after the other
@@ -199,16 +199,16 @@ module _ (y : System) (macroblocks : List ℕ) (h q v : ℕ) where
   abbrev pub video_in : ℕ → List ℕ
   video_in j = section_block h q Video (video_bytes y macroblocks h q) (v + j)
 
-  module _ (d xs : List ℕ) (asked : VideosAsked d y macroblocks v) (j : ℕ) (ex : Filled 80 video_in j d xs) where
-    video_fits_lem : j < 15 → length xs ≡ length d → video_fits (length (take (j * 80 + 80 - j * 80) (drop (j * 80) xs))) y (length macroblocks) ≡ true
+  module _ (d xs : List ℕ) (asked : VideosAsked d v) (j : ℕ) (ex : Filled 80 video_in j d xs) where
+    video_fits_lem : length macroblocks ≡ 77 * macroblocks_of y → j < 15 → length xs ≡ length d → video_fits (length (take (j * 80 + 80 - j * 80) (drop (j * 80) xs))) y (length macroblocks) ≡ true
     unfolding video_fits
-    video_fits_lem hj same = rw (eq-eqb _ _ (part_long xs (j * 80) 80 (omega (arith, same, asked.long))), eq-eqb _ _ asked.pictures) refl
+    video_fits_lem pictures hj same = rw (eq-eqb _ _ (part_long xs (j * 80) 80 (omega (arith, same, asked.long))), eq-eqb _ _ pictures) refl
 
-    pub videos_turn : (ys : List ℕ) (i : BlockId) → length xs ≡ length d → j < 15 → i ≡ id_of h q Video (v + j)
+    pub videos_turn : (ys : List ℕ) (i : BlockId) → length macroblocks ≡ 77 * macroblocks_of y → length xs ≡ length d → j < 15 → i ≡ id_of h q Video (v + j)
         → ys ≡ pick (video_fits (length (take (j * 80 + 80 - j * 80) (drop (j * 80) xs))) y (length macroblocks)) (id_bytes i ++ video_bytes y macroblocks i.channel i.dseq i.dbn.0) (take (j * 80 + 80 - j * 80) (drop (j * 80) xs))
         → Filled 80 video_in (j + 1) d (put_mid (j * 80) (j * 80 + 80 - j * 80) xs ys)
-    videos_turn ys i same hj ei ey =
-        filled_next 80 video_in (λ n. block_wide h q Video (video_bytes y macroblocks h q) (video_length y macroblocks h q) (v + n)) j d xs ys ex (written _ _ _ ys (video_fits_lem hj same) ey ∙ rw ei refl)
+    videos_turn ys i pictures same hj ei ey =
+        filled_next 80 video_in (λ n. block_wide h q Video (video_bytes y macroblocks h q) (video_length y macroblocks h q) (v + n)) j d xs ys ex (written _ _ _ ys (video_fits_lem pictures hj same) ey ∙ rw ei refl)
 
     pub videos_done : j ≤ 15 → 15 ≤ j → xs ≡ video_blocks y macroblocks h q v
     unfolding video_blocks
@@ -216,13 +216,13 @@ module _ (y : System) (macroblocks : List ℕ) (h q v : ℕ) where
 
 -- ---- a bank
 
-module _ (y : System) (h q a : ℕ) (source asc : Pack) (samples : List ℤ) (macroblocks xs : List ℕ) (asked : BankAsked xs y samples macroblocks a) where
-  pub videos_asked : (ws : List ℕ) (v : ℕ) → length ws ≡ 1200 → v ≡ (entry_at (place ((place_for Audio (record { 0 = a })).0 + 1))).number.0 → VideosAsked ws y macroblocks v
-  videos_asked ws v n ev = record { long = n; pictures = asked.whole.pictures; below = omega (arith, asked.below, behind_first_video a v asked.below ev) }
+pub videos_asked : (a : ℕ) (xs ws : List ℕ) (v : ℕ) → BankAsked xs a → length ws ≡ 1200 → v ≡ (entry_at (place ((place_for Audio (record { 0 = a })).0 + 1))).number.0 → VideosAsked ws v
+videos_asked a xs ws v asked n ev = record { long = n; below = omega (arith, asked.below, behind_first_video a v asked.below ev) }
 
+module _ (y : System) (h q a : ℕ) (source asc : Pack) (samples : List ℤ) (macroblocks xs : List ℕ) (asked : BankAsked xs a) (turns : 315 * half_of y ≤ length samples) where
   audio_fits_lem : (ps : List ℕ) → length ps ≡ 80 → audio_fits (length ps) y (length samples) a ≡ true
   unfolding audio_fits
-  audio_fits_lem ps n = rw (eq-eqb _ _ n, lt-ltb _ _ asked.below, le-leb _ _ asked.whole.turns) refl
+  audio_fits_lem ps n = rw (eq-eqb _ _ n, lt-ltb _ _ asked.below, le-leb _ _ turns) refl
 
   pub bank_done : (ps zs vs : List ℕ) (i : BlockId) (v : ℕ) → length ps ≡ 80 → i ≡ id_of h q Audio a → v ≡ (entry_at (place ((place_for Audio (record { 0 = a })).0 + 1))).number.0
       → zs ≡ pick (audio_fits (length ps) y (length samples) i.dbn.0) (id_bytes i ++ audio_bytes y source asc samples i.dseq i.dbn.0) ps
@@ -231,9 +231,16 @@ module _ (y : System) (h q a : ℕ) (source asc : Pack) (samples : List ℤ) (ma
   bank_done ps zs vs i v n ei e ez ev =
       let here : zs ≡ section_block h q Audio (audio_bytes y source asc samples q) a = written _ _ ps zs (audio_fits_lem ps n) (ez ∙ rw ei refl) in
       let long : length zs ≡ 80 = ap length here ∙ block_wide h q Audio (audio_bytes y source asc samples q) (audio_length y source asc samples q) a in
-      two_parts 80 1200 zs vs xs long asked.whole.long ∙ rw (here, ev, behind_first_video a v asked.below e) refl
+      two_parts 80 1200 zs vs xs long asked.long ∙ rw (here, ev, behind_first_video a v asked.below e) refl
 
 -- ---- the banks
+
+module _ (d xs : List ℕ) (long : length d ≡ 12000) (a : ℕ) (p : Place) (ep : p ≡ place_for Audio (record { 0 = a })) (ha : a < 9) (same : length xs ≡ length d) where
+  pub bank_ends : p.0 * 80 + 1280 ≤ length xs
+  bank_ends = omega (arith, same, long, bank_stands a p ep ha)
+
+  pub bank_asked : BankAsked (take (p.0 * 80 + 1280 - p.0 * 80) (drop (p.0 * 80) xs)) a
+  bank_asked = record { long = part_long xs (p.0 * 80) 1280 bank_ends; below = ha }
 
 module _ (y : System) (h q : ℕ) (source asc : Pack) (samples : List ℤ) (macroblocks : List ℕ) where
   abbrev pub bank_at : ℕ → List ℕ
@@ -247,20 +254,14 @@ module _ (y : System) (h q : ℕ) (source asc : Pack) (samples : List ℤ) (macr
       let rest = length_run 80 videos (λ j. block_wide h q Video (video_bytes y macroblocks h q) (video_length y macroblocks h q) (15 * a + j)) 15 in
       length-append (section_block h q Audio (audio_bytes y source asc samples q) a) (run videos 15) ∙ omega (arith, first, rest)
 
-  module _ (d xs : List ℕ) (asked : BanksAsked d 12000 y samples macroblocks) (a : ℕ) (p : Place) (ep : p ≡ place_for Audio (record { 0 = a })) (ha : a < 9) (same : length xs ≡ length d) where
-    pub bank_ends : p.0 * 80 + 1280 ≤ length xs
-    bank_ends = omega (arith, same, asked.long, bank_stands a p ep ha)
-
-    pub bank_asked : BankAsked (take (p.0 * 80 + 1280 - p.0 * 80) (drop (p.0 * 80) xs)) y samples macroblocks a
-    bank_asked = record { whole = record { long = part_long xs (p.0 * 80) 1280 bank_ends; turns = asked.turns; pictures = asked.pictures }; below = ha }
-
+  module _ (d xs : List ℕ) (long : length d ≡ 12000) (a : ℕ) (p : Place) (ep : p ≡ place_for Audio (record { 0 = a })) (ha : a < 9) (same : length xs ≡ length d) where
     pub banks_turn : (ys : List ℕ) → FilledFrom 480 1280 bank_at a d xs → ys ≡ bank_blocks y source asc samples macroblocks h q a
         → FilledFrom 480 1280 bank_at (a + 1) d (put_mid (p.0 * 80) (p.0 * 80 + 1280 - p.0 * 80) xs ys)
-    banks_turn ys ex ey = from_next 480 1280 bank_at bank_wide a d xs ys (omega (arith, asked.long)) ex (p.0 * 80) (omega (arith, bank_stands a p ep ha)) ey
+    banks_turn ys ex ey = from_next 480 1280 bank_at bank_wide a d xs ys (omega (arith, long)) ex (p.0 * 80) (omega (arith, bank_stands a p ep ha)) ey
 
-  pub banks_done : (d xs : List ℕ) (a : ℕ) → BanksAsked d 12000 y samples macroblocks → FilledFrom 480 1280 bank_at a d xs → a ≤ 9 → 9 ≤ a → xs ≡ take 480 d ++ run bank_at 9
-  banks_done d xs a asked ex le ge =
-      let rest : length (drop 480 d) ≡ 9 * 1280 = omega (arith, length-drop 480 d, asked.long) in
+  pub banks_done : (d xs : List ℕ) (a : ℕ) → length d ≡ 12000 → FilledFrom 480 1280 bank_at a d xs → a ≤ 9 → 9 ≤ a → xs ≡ take 480 d ++ run bank_at 9
+  banks_done d xs a long ex le ge =
+      let rest : length (drop 480 d) ≡ 9 * 1280 = omega (arith, length-drop 480 d, long) in
       ex ∙ ap (λ (l : List ℕ). take 480 d ++ l) (filled_end 1280 bank_at a 9 (drop 480 d) (run bank_at a ++ drop (a * 1280) (drop 480 d)) refl rest le ge)
 
 -- ---- the sequence: by the place rule it is the six blocks and the nine banks
@@ -305,7 +306,7 @@ module _ (y : System) (m : Material) (h q : ℕ) where
     unfolding written_sequence
     sequence_is = run_split at_place 6 144 ∙ ap₂ ◌++◌ head_places banks_places
 
-module _ (y : System) (h q count : ℕ) (sound : List ℤ) (macroblocks xs : List ℕ) (asked : SequenceAsked xs y h q count sound macroblocks) (s : ℕ) (es : s ≡ half_of y) where
+module _ (y : System) (h q : ℕ) (xs : List ℕ) (asked : SequenceAsked xs y h q) (s : ℕ) (es : s ≡ half_of y) where
   half : Half s
   half = subst Half (sym es) (half_cases y)
 
@@ -319,23 +320,24 @@ module _ (y : System) (h q count : ℕ) (sound : List ℤ) (macroblocks xs : Lis
     within : (0 < c) × (c < 9)
     within = rw ec (audio_within s h q half below asked.channel)
 
-    pub samples_asked : SamplesAsked sound c count
-    samples_asked = record {
-      above = within.0;
-      below = within.1;
-      counted = omega (arith, count_below y count asked.lengths.counts, positions_le y);
-      sounds = asked.lengths.sounds;
-    }
+    module _ (count : ℕ) (sound : List ℤ) (counts : is_count y count ≡ true) (sounds : length sound ≡ 8 * count) where
+      pub samples_asked : SamplesAsked sound c count
+      samples_asked = record {
+        above = within.0;
+        below = within.1;
+        counted = omega (arith, count_below y count counts, positions_le y);
+        sounds = sounds;
+      }
 
-    pub banks_asked : (part : List ℕ) (samples : List ℤ) → length part ≡ length xs → samples ≡ samples_of count sound c → BanksAsked part 12000 y samples macroblocks
-    banks_asked part samples n e =
-        let len : length samples ≡ count = ap length e ∙ samples_length count sound c within.0 within.1 asked.lengths.sounds in
-        let turns : 9 * half_of y * 35 ≤ count = count_turns y count asked.lengths.counts in
-        record { long = n ∙ asked.long; turns = omega (arith, len, turns); pictures = asked.lengths.pictures }
+      pub bank_turns : (samples : List ℤ) → samples ≡ samples_of count sound c → 315 * half_of y ≤ length samples
+      bank_turns samples e =
+          let len : length samples ≡ count = ap length e ∙ samples_length count sound c within.0 within.1 sounds in
+          let turns : 9 * half_of y * 35 ≤ count = count_turns y count counts in
+          omega (arith, len, turns)
 
-    pub sequence_done : (r : Repeated) (source : Pack) (samples : List ℤ) (head : ℕ) (zs bs : List ℕ) → source ≡ as_pack y count c → samples ≡ samples_of count sound c → zs ≡ head_blocks y r h q
+    pub sequence_done : (count : ℕ) (sound : List ℤ) (macroblocks : List ℕ) (r : Repeated) (source : Pack) (samples : List ℤ) (head : ℕ) (zs bs : List ℕ) → source ≡ as_pack y count c → samples ≡ samples_of count sound c → zs ≡ head_blocks y r h q
         → bs ≡ take 480 (zs ++ post_of 0 head xs) ++ run (bank_blocks y source r.asc samples macroblocks h q) 9 → bs ≡ written_sequence y (material_of r count sound macroblocks) h q
-    sequence_done r source samples head zs bs eo ea ez eb =
+    sequence_done count sound macroblocks r source samples head zs bs eo ea ez eb =
         let m : Material = material_of r count sound macroblocks in
         let long : length zs ≡ 480 = ap length (ez ∙ sym (head_places y m h q)) ∙ length_run 80 (written_block y m h q) (Written.block_wide y m h q) 6 in
         eb ∙ rw (take_at zs (post_of 0 head xs) 480 long, ez, eo, ea) (sym (sequence_is y m h q c (ec ∙ ap (λ (i : ℕ). audio_at i h q) es)))
@@ -365,9 +367,9 @@ module _ (y : System) (h q : ℕ) (m : Material) (d xs : List ℕ) (ex : Filled 
   pub channel_turn : (ys : List ℕ) → ys ≡ written_sequence y m h q → Filled 12000 (written_sequence y m h) (q + 1) d (put_mid (q * 12000) (q * 12000 + 12000 - q * 12000) xs ys)
   channel_turn ys ey = filled_next 12000 (written_sequence y m h) (sequence_wide y m h) q d xs ys ex ey
 
-  pub channel_done : (n : ℕ) → n ≡ sequences_of y → length d ≡ sequences_of y * 12000 → q ≤ sequences_of y → n ≤ q → xs ≡ written_channel y m h
+  pub channel_done : (n : ℕ) → n ≡ sequences_of y → length d ≡ sequences_of y * 12000 → q ≤ n → n ≤ q → xs ≡ written_channel y m h
   unfolding written_channel
-  channel_done n en len le ge = filled_end 12000 (written_sequence y m h) q (sequences_of y) d xs ex len le (omega arith)
+  channel_done n en len le ge = filled_end 12000 (written_sequence y m h) q (sequences_of y) d xs ex len (omega arith) (omega arith)
 
 -- sequence q of n is within the channel's part
 module _ (y : System) (q n : ℕ) (en : n ≡ sequences_of y) (hq : q < n) where
@@ -377,13 +379,12 @@ module _ (y : System) (q n : ℕ) (en : n ≡ sequences_of y) (hq : q < n) where
   pub sequence_next : q + 1 ≤ sequences_of y
   sequence_next = omega arith
 
-  pub sequence_asked : (part xs : List ℕ) (h count : ℕ) (sound : List ℤ) (macroblocks : List ℕ) → ChannelPartAsked part y h count sound macroblocks → length xs ≡ length part
-      → SequenceAsked (take (q * 12000 + 12000 - q * 12000) (drop (q * 12000) xs)) y h q count sound macroblocks
-  sequence_asked part xs h count sound macroblocks a same = record {
+  pub sequence_asked : (part xs : List ℕ) (h : ℕ) → ChannelPartAsked part y h → length xs ≡ length part
+      → SequenceAsked (take (q * 12000 + 12000 - q * 12000) (drop (q * 12000) xs)) y h q
+  sequence_asked part xs h a same = record {
     long = ap length (range_part (q * 12000) 12000 xs) ∙ length_part (q * 12000) 12000 xs (omega (arith, same, a.long, end_within 12000 q (sequences_of y) sequence_in));
     channel = a.channel;
     sequence = sequence_in;
-    lengths = a.lengths;
   }
 
 -- ---- the frame
@@ -415,26 +416,35 @@ module _ (y : System) (h n : ℕ) (en : n ≡ sequences_of y) where
     pub end_fits : Fits w64 (h * (n * 12000) + n * 12000)
     end_fits = omega (arith, size_end, sequences_le y)
 
-    pub channel_within : (frame part : List ℕ) (count : ℕ) (sound : List ℤ) (macroblocks : List ℕ) → FrameAsked frame y count sound macroblocks → length part ≡ length frame
-        → h * (n * 12000) + n * 12000 ≤ length part
-    channel_within frame part count sound macroblocks a same = omega (arith, size_end, a.long)
+    pub channel_within : (frame part : List ℕ) → length frame ≡ 48000 * sequences_of y → length part ≡ length frame → h * (n * 12000) + n * 12000 ≤ length part
+    channel_within frame part long same = omega (arith, size_end, long)
 
-    pub channel_part_asked : (frame xs : List ℕ) (count : ℕ) (sound : List ℤ) (macroblocks : List ℕ) → FrameAsked frame y count sound macroblocks → length xs ≡ length frame
-        → ChannelPartAsked (take (h * (n * 12000) + n * 12000 - h * (n * 12000)) (drop (h * (n * 12000)) xs)) y h count sound macroblocks
-    channel_part_asked frame xs count sound macroblocks a same = record {
-      long = ap length (range_part (h * (n * 12000)) (n * 12000) xs) ∙ length_part (h * (n * 12000)) (n * 12000) xs (channel_within frame xs count sound macroblocks a same) ∙ ap (λ (i : ℕ). i * 12000) en;
+    pub channel_part_asked : (frame xs : List ℕ) → length frame ≡ 48000 * sequences_of y → length xs ≡ length frame
+        → ChannelPartAsked (take (h * (n * 12000) + n * 12000 - h * (n * 12000)) (drop (h * (n * 12000)) xs)) y h
+    channel_part_asked frame xs long same = record {
+      long = ap length (range_part (h * (n * 12000)) (n * 12000) xs) ∙ length_part (h * (n * 12000)) (n * 12000) xs (channel_within frame xs long same) ∙ ap (λ (i : ℕ). i * 12000) en;
       channel = hh;
-      lengths = a.lengths;
     }
 
 -- ---- the call
 
 -- what is in order has the lengths that the writers ask
-pub frame_asked : (k n : ℕ) (y : System) (r : Option System) (count : ℕ) (sound : List ℤ) (macroblocks time group frame : List ℕ) → r ≡ system_of k → r ≡ Some y
-    → n ≡ write_number k (contents_of count sound macroblocks time group) (length frame) → n ≡ 0 → FrameAsked frame y count sound macroblocks
-frame_asked k n y r count sound macroblocks time group frame er ey en z =
-    let t = taken_takes k (contents_of count sound macroblocks time group) (length frame) y (sym er ∙ ey) (sym en ∙ z) in
-    record { long = t.frame; lengths = record { counts = t.counts; sounds = t.sounds; pictures = t.pictures } }
+module _ (k n : ℕ) (y : System) (r : Option System) (count : ℕ) (sound : List ℤ) (macroblocks time group frame : List ℕ) (er : r ≡ system_of k) (ey : r ≡ Some y)
+    (en : n ≡ write_number k (contents_of count sound macroblocks time group) (length frame)) (z : n ≡ 0) where
+  takes : Takes y (contents_of count sound macroblocks time group) (length frame)
+  takes = taken_takes k (contents_of count sound macroblocks time group) (length frame) y (sym er ∙ ey) (sym en ∙ z)
+
+  pub frame_asked : length frame ≡ 48000 * sequences_of y
+  frame_asked = takes.frame
+
+  pub counts_asked : is_count y count ≡ true
+  counts_asked = takes.counts
+
+  pub sounds_asked : length sound ≡ 8 * count
+  sounds_asked = takes.sounds
+
+  pub pictures_asked : length macroblocks ≡ 77 * macroblocks_of y
+  pictures_asked = takes.pictures
 
 -- a refusal, as the call leaves it
 pub number_stops : (k n : ℕ) (l : Contents) (frame : List ℕ) → n ≡ write_number k l (length frame) → 0 < n → Wrote k l frame n frame

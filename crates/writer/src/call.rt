@@ -2,6 +2,7 @@
 ghost use Rattle.rules_writes.specs.Write.{contents_of, Wrote};
 
 use crate::frame;
+use crate::material::Material;
 
 // Writes a frame. Refusals: 1, 2, 3, 4, 31, 32; a refusal writes nothing.
 pub fn write_frame(
@@ -30,7 +31,13 @@ pub fn write_frame(
     let Some(y) = layout::system_of(system) else {
         return number;
     };
-    let repeated = packs::repeated(y, time_code, binary_group);
-    frame::fill_frame(frame, y, repeated, count, sound, macroblocks);
+    let material = Material {
+        system: y,
+        repeated: packs::repeated(y, time_code, binary_group),
+        count: count,
+        sound: sound,
+        macroblocks: macroblocks,
+    };
+    frame::fill_frame(frame, &material);
     0
 }

@@ -4,6 +4,7 @@
 mod audio;
 mod call;
 mod frame;
+mod material;
 mod sequence;
 
 pub use call::write_frame;

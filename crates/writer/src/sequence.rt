@@ -7,10 +7,11 @@ ghost use Rattle.rules_format.specs.Ids.{id_of};
 ghost use Rattle.rules_packs.specs.Subcode.{is_first, subcode_bytes};
 ghost use Rattle.rules_packs.specs.Vaux.{vaux_bytes};
 ghost use Rattle.rules_writes.specs.Written.{material_of, written_sequence};
-ghost use Rattle.writer.specs.Asked.{VideosAsked, BanksAsked, BankAsked, SequenceAsked};
+ghost use Rattle.writer.specs.Asked.{VideosAsked, BankAsked, SequenceAsked};
 ghost use Rattle.writer.specs.Blocks.{first_blocks, video_blocks, head_blocks, bank_blocks};
 
 use crate::audio;
+use crate::material::{Bank, Material};
 use layout::BLOCK;
 use paper::{BlockId, BlockNumber, Pack, Place, Repeated, Section, SubcodeData, System};
 
@@ -41,8 +42,7 @@ fn write_subcodes(part: &mut [u8], y: System, h: u32, q: u32, said: SubcodeData)
     requires { length part.old ≡ 160 }
     ensures { part.new ≡ first_blocks h q Section.Subcode (subcode_bytes (is_first y q) said) 2 }
 {
-    let mut k: u32 = 0;
-    while k < 2 {
+    for k in 0..2 {
         let at = (k as usize) * BLOCK;
         let to = at + BLOCK;
         blocks::put_subcode(
@@ -51,7 +51,6 @@ fn write_subcodes(part: &mut [u8], y: System, h: u32, q: u32, said: SubcodeData)
             q < layout::half(y),
             said,
         );
-        k += 1;
     }
 }
 
@@ -60,12 +59,10 @@ fn write_vauxes(part: &mut [u8], h: u32, q: u32, vs: Pack, vsc: Pack)
     requires { length part.old ≡ 240 }
     ensures { part.new ≡ first_blocks h q Section.Vaux (vaux_bytes vs vsc q) 3 }
 {
-    let mut k: u32 = 0;
-    while k < 3 {
+    for k in 0..3 {
         let at = (k as usize) * BLOCK;
         let to = at + BLOCK;
         blocks::put_vaux(&mut part[at..to], id(h, q, Section::Vaux, k), vs, vsc);
-        k += 1;
     }
 }
 
@@ -83,21 +80,19 @@ fn write_head(part: &mut [u8], y: System, h: u32, q: u32, repeated: Repeated)
 }
 
 // Fifteen video blocks one after the other, from V(v) on.
-fn write_videos(part: &mut [u8], y: System, h: u32, q: u32, v: u32, macroblocks: &[u8])
-    requires { VideosAsked part.old y macroblocks.now v }
-    ensures { part.new ≡ video_blocks y macroblocks.now h q v }
+fn write_videos(part: &mut [u8], bank: &Bank, h: u32, q: u32, v: u32)
+    requires { VideosAsked part.old v }
+    ensures { part.new ≡ video_blocks bank.now.system bank.now.macroblocks.now h q v }
 {
-    let mut j: u32 = 0;
-    while j < 15 {
+    for j in 0..15 {
         let at = (j as usize) * BLOCK;
         let to = at + BLOCK;
         blocks::put_video(
             &mut part[at..to],
             id(h, q, Section::Video, v + j),
-            y,
-            macroblocks,
+            bank.system,
+            bank.macroblocks,
         );
-        j += 1;
     }
 }
 
@@ -111,89 +106,47 @@ fn behind(a: u32) -> u32
 }
 
 // A(a) and the video blocks behind it.
-fn write_bank(
-    part: &mut [u8],
-    y: System,
-    h: u32,
-    q: u32,
-    a: u32,
-    source: Pack,
-    asc: Pack,
-    samples: &[i32],
-    macroblocks: &[u8],
-)
-    requires { BankAsked part.old y samples.now macroblocks.now a }
-    ensures { part.new ≡ bank_blocks y source asc samples.now macroblocks.now h q a }
+fn write_bank(part: &mut [u8], bank: &Bank, h: u32, q: u32, a: u32)
+    requires { BankAsked part.old a }
+    ensures { part.new ≡ bank_blocks bank.now.system bank.now.source bank.now.asc bank.now.samples.now bank.now.macroblocks.now h q a }
 {
     blocks::put_audio(
         &mut part[0..BLOCK],
         id(h, q, Section::Audio, a),
-        y,
-        source,
-        asc,
-        samples,
+        bank.system,
+        bank.source,
+        bank.asc,
+        bank.samples,
     );
-    write_videos(&mut part[BLOCK..BANK], y, h, q, behind(a), macroblocks);
+    write_videos(&mut part[BLOCK..BANK], bank, h, q, behind(a));
 }
 
-// The nine banks of a sequence, by the AS and the samples of its audio channel. What comes before A0 stays as it is.
-fn write_banks(
-    part: &mut [u8],
-    y: System,
-    h: u32,
-    q: u32,
-    source: Pack,
-    asc: Pack,
-    samples: &[i32],
-    macroblocks: &[u8],
-)
-    requires { BanksAsked part.old 12000 y samples.now macroblocks.now }
-    ensures { part.new ≡ take 480 part.old ++ run (bank_blocks y source asc samples.now macroblocks.now h q) 9 }
+// The nine banks of a sequence. What comes before A0 stays as it is.
+fn write_banks(part: &mut [u8], bank: &Bank, h: u32, q: u32)
+    requires { length part.old ≡ 12000 }
+    ensures { part.new ≡ take 480 part.old ++ run (bank_blocks bank.now.system bank.now.source bank.now.asc bank.now.samples.now bank.now.macroblocks.now h q) 9 }
 {
-    let mut a: u32 = 0;
-    while a < 9 {
+    for a in 0..9 {
         let p = layout::place_in(Section::Audio, BlockNumber(a));
         let at = p.0 as usize * BLOCK;
         let to = at + BANK;
-        write_bank(
-            &mut part[at..to],
-            y,
-            h,
-            q,
-            a,
-            source,
-            asc,
-            samples,
-            macroblocks,
-        );
-        a += 1;
+        write_bank(&mut part[at..to], bank, h, q, a);
     }
 }
 
-pub(crate) fn write_sequence(
-    part: &mut [u8],
-    y: System,
-    h: u32,
-    q: u32,
-    repeated: Repeated,
-    count: u32,
-    sound: &[i32],
-    macroblocks: &[u8],
-)
-    requires { SequenceAsked part.old y h q count sound.now macroblocks.now }
-    ensures { part.new ≡ written_sequence y (material_of repeated count sound.now macroblocks.now) h q }
+pub(crate) fn write_sequence(part: &mut [u8], m: &Material, h: u32, q: u32)
+    requires { SequenceAsked part.old m.now.system h q }
+    ensures { part.new ≡ written_sequence m.now.system (material_of m.now.repeated m.now.count m.now.sound.now m.now.macroblocks.now) h q }
 {
-    let c = audio::audio_at(layout::half(y), h, q);
+    let c = audio::audio_at(layout::half(m.system), h, q);
     let head = start(Section::Audio);
-    write_head(&mut part[0..head], y, h, q, repeated);
-    write_banks(
-        part,
-        y,
-        h,
-        q,
-        packs::as_pack(y, count, c),
-        repeated.asc,
-        audio::samples_of(sound, c, count),
-        macroblocks,
-    );
+    write_head(&mut part[0..head], m.system, h, q, m.repeated);
+    let bank = Bank {
+        system: m.system,
+        source: packs::as_pack(m.system, m.count, c),
+        asc: m.repeated.asc,
+        samples: audio::samples_of(m.sound, c, m.count),
+        macroblocks: m.macroblocks,
+    };
+    write_banks(part, &bank, h, q);
 }

@@ -1,14 +1,12 @@
 -- `replacer::replace_sequence` meets its contract: the first blocks are done. Assumes nothing.
-use mathlib.Core.Path.{refl, sym}
-use Prim.Native.Nat.{◌-◌}
-use native.Mathlib.Omega.{arith}
+use mathlib.Core.Path.{sym}
 use borrow.Author.Rules.{rules}
 use Rattle.base.proofs.Puts.{turns_none, turns_all}
 use Rattle.replacer.proofs.Ways.{block_fits, block_asked, block_turn_lem}
 use Rattle.replacer.proofs.replace_sequence.Goals as goal
 
 pub loop-a-init : goal.loop-a-init
-loop-a-init c = (sym (turns_none _ _), refl, omega arith)
+loop-a-init c = sym (turns_none _ _)
 
 pub overflow_mul-at : goal.overflow_mul-at
 overflow_mul-at c = search (block_fits, rules)
@@ -23,7 +21,7 @@ pub replace_block-requires : goal.replace_block-requires
 replace_block-requires c = search (block_asked, rules)
 
 pub loop-a-preserved : goal.loop-a-preserved
-loop-a-preserved c = (search (block_turn_lem, rules), search rules, search rules)
+loop-a-preserved c = search (block_turn_lem, rules)
 
 pub returns : goal.returns
 returns c = search (turns_all, rules)

@@ -1,6 +1,4 @@
 -- `sample_words::put_words` meets its contract: the first words are written, and t is the next sample. Assumes nothing.
-use mathlib.Core.Path.{refl}
-use Prim.Native.Nat.{◌-◌}
 use native.Mathlib.Omega.{arith}
 use borrow.Author.Rules.{rules}
 use Rattle.base.proofs.Filling.{filled_none}
@@ -8,7 +6,7 @@ use Rattle.sample_words.proofs.Ways.{sample_within, sample_next, sample_fits, wo
 use Rattle.sample_words.proofs.put_words.Goals as goal
 
 pub loop-w-init : goal.loop-w-init
-loop-w-init c = (filled_none 2 _ _, omega arith, refl, omega arith)
+loop-w-init c = (filled_none 2 _ _, omega arith)
 
 pub offset_bounds-samples-t : goal.offset_bounds-samples-t
 offset_bounds-samples-t c = search (sample_within, rules)
@@ -23,7 +21,7 @@ pub overflow_add-t : goal.overflow_add-t
 overflow_add-t c = search (sample_fits, rules)
 
 pub loop-w-preserved : goal.loop-w-preserved
-loop-w-preserved c = (search (word_put, sample_within, rules), search (sample_next, rules), search rules, search rules)
+loop-w-preserved c = (search (word_put, sample_within, rules), search (sample_next, rules))
 
 pub put_word-requires-then-t-samples : goal.put_word-requires-then-t-samples
 put_word-requires-then-t-samples c = search (word_for_below, rules)

@@ -6,5 +6,5 @@ use Rattle.sequence_samples.proofs.or_lost.Goals as goal
 pub returns-then-named : goal.returns-then-named
 returns-then-named c = sym (pick_true _ _ c.if-named.true)
 
-pub returns : goal.returns
-returns c = sym (pick_false _ _ c.if-named.false)
+pub returns-else-named : goal.returns-else-named
+returns-else-named c = sym (pick_false _ _ c.if-named.false)

@@ -1,6 +1,5 @@
 -- `sequence_samples::put_words` meets its contract: the first words are put, and t is the next sample. Assumes nothing.
 use mathlib.Core.Path.{◌∙◌}
-use Prim.Native.Nat.{◌-◌}
 use native.Mathlib.Omega.{arith}
 use mir.Syntax.{w32}
 use mir.ValLaws.{to_z-of_z}

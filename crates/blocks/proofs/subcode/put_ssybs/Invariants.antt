@@ -1,12 +1,6 @@
-use mathlib.Core.Path.{◌≡◌}
-use Prim.Native.Nat.{◌-◌, ◌≤◌}
-use lib.ListN.{length}
 use Rattle.base.proofs.Filling.{Filled}
 use Rattle.blocks.proofs.Ways.{ssyb_at}
 use Rattle.blocks.proofs.subcode.put_ssybs.Given as goal
 
 abbrev pub invariant-loop-j : goal.invariant-loop-j
-invariant-loop-j l = Filled 8 (ssyb_at l.first l.said l.k) l.j l.initial.part l.part × (length l.part ≡ length l.initial.part) × (l.j ≤ 6)
-
-abbrev pub decreases-loop-j : goal.decreases-loop-j
-decreases-loop-j l = 6 - l.j
+invariant-loop-j l = Filled 8 (ssyb_at l.first l.said l.k) l.j l.initial.part l.part

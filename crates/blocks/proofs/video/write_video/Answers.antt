@@ -3,8 +3,8 @@ use borrow.Author.Rules.{rules}
 use Rattle.blocks.proofs.Ways.{macroblock_within, macroblock_done, empty_done}
 use Rattle.blocks.proofs.video.write_video.Goals as goal
 
-pub slice_bounds-copy_macroblock-end-in-Some : goal.slice_bounds-copy_macroblock-end-in-Some
-slice_bounds-copy_macroblock-end-in-Some c = search (macroblock_within, rules)
+pub slice_bounds-copy_from_slice-end-in-Some : goal.slice_bounds-copy_from_slice-end-in-Some
+slice_bounds-copy_from_slice-end-in-Some c = search (macroblock_within, rules)
 
 pub returns-in-Some : goal.returns-in-Some
 returns-in-Some c = search (macroblock_done, rules)

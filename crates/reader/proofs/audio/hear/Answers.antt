@@ -6,5 +6,5 @@ use Rattle.reader.proofs.audio.hear.Goals as goal
 pub returns-then-marked : goal.returns-then-marked
 returns-then-marked c = search (hears_lost, rules)
 
-pub returns : goal.returns
-returns c = search (hears_words, rules)
+pub returns-else-marked : goal.returns-else-marked
+returns-else-marked c = search (hears_words, rules)

@@ -2,7 +2,7 @@
 use mathlib.Core.Path.{◌≡◌, refl, sym, ap, ◌∙◌}
 use mathlib.Core.Bool.{Bool, true, false, ◌&&◌}
 use mathlib.Core.List.{List}
-use Prim.Native.Nat.{ℕ, ◌≤◌, ◌<◌, ◌+◌, ◌-◌}
+use Prim.Native.Nat.{ℕ, ◌≤◌, ◌<◌, ◌+◌}
 use native.Mathlib.Numerals.{add-one}
 use lib.IntN.{ℤ, pos}
 use lib.ListN.{length, drop, get_or, drop_of_length-le}
@@ -34,16 +34,13 @@ done xs i good e h = and_true good ∙ ap (λ (l : List ℤ). good && all_in_ran
     and_true true = refl
     and_true false = refl
 
-pub loop-i-init : goal.loop-i-init
-loop-i-init c = (refl, search rules)
-
 -- what the call says of the number that was read
 told : (c : After-in_range-good)
-    → c.in_range-good.result ≡ in_range (get_or c.args.numbers.now c.loop-i.i (pos 0))
-told c = rw (to_z-of_z w32 (get_or c.args.numbers.now c.loop-i.i (pos 0)) (record { sfits = search rules })) at c.in_range-good.ensures
+    → c.in_range-good.result ≡ in_range (get_or c.args.numbers.now c.loop-x.x-index (pos 0))
+told c = rw (to_z-of_z w32 (get_or c.args.numbers.now c.loop-x.x-index (pos 0)) (record { sfits = search rules })) at c.in_range-good.ensures
 
-pub loop-i-preserved : goal.loop-i-preserved
-loop-i-preserved c = (turn _ _ c.loop-i.good c.in_range-good.result c.loop-i.invariant.0 c.loop-i-test.true (told c), search rules)
+pub loop-x-preserved : goal.loop-x-preserved
+loop-x-preserved c = turn _ _ c.loop-x.good c.in_range-good.result c.loop-x.invariant c.loop-x-test.true (told c)
 
 pub returns : goal.returns
 returns c = search (done, rules)

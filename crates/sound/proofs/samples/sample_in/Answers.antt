@@ -57,5 +57,5 @@ fits_16 c = level_fits _ (ranged c) c.if-x-eq32768.false
 pub overflow_cast-result : goal.overflow_cast-result
 overflow_cast-result c = rw (to_z-of_z w32 _ c.ranges.x) (fits_16 c)
 
-pub returns : goal.returns
-returns c = rw (to_z-of_z w32 _ c.ranges.x, to_z-of_z w16 _ (fits_16 c)) (level_is _ (ranged c) (fits_16 c))
+pub returns-else-x-eq32768 : goal.returns-else-x-eq32768
+returns-else-x-eq32768 c = rw (to_z-of_z w32 _ c.ranges.x, to_z-of_z w16 _ (fits_16 c)) (level_is _ (ranged c) (fits_16 c))

@@ -20,4 +20,4 @@ returns-then-word c = search (lost_is, rules)
 
 pub returns-else-word : goal.returns-else-word
 unfolding sample_of pick
-returns-else-word c = rw (to_z-of_z w16 _ (sfits_of c.level_of.type_inv), c.level_of.ensures, ne_eqb _ _ c.if-word.false) refl
+returns-else-word c = rw (to_z-of_z w16 _ (sfits_of c.cast_signed.type_inv), c.cast_signed.ensures, ne_eqb _ _ c.if-word.false) refl

@@ -17,11 +17,11 @@ told z r f e = rw (to_z-of_z w16 z f) at e
 
 pub returns-then-bits-eq32768 : goal.returns-then-bits-eq32768
 unfolding word_of pick
-returns-then-bits-eq32768 c = rw (c.in-Level.is, ← told c.in-Level.z _ (record { sfits = search rules }) c.bits_of-bits.ensures, eq-eqb _ _ c.if-bits-eq32768.true) refl
+returns-then-bits-eq32768 c = rw (c.in-Level.is, ← told c.in-Level.z _ (record { sfits = search rules }) c.cast_unsigned-bits.ensures, eq-eqb _ _ c.if-bits-eq32768.true) refl
 
 pub returns-else-bits-eq32768 : goal.returns-else-bits-eq32768
 unfolding word_of pick
-returns-else-bits-eq32768 c = rw (c.in-Level.is, ← told c.in-Level.z _ (record { sfits = search rules }) c.bits_of-bits.ensures, ne_eqb _ _ c.if-bits-eq32768.false) refl
+returns-else-bits-eq32768 c = rw (c.in-Level.is, ← told c.in-Level.z _ (record { sfits = search rules }) c.cast_unsigned-bits.ensures, ne_eqb _ _ c.if-bits-eq32768.false) refl
 
 pub returns-in-Lost : goal.returns-in-Lost
 unfolding word_of

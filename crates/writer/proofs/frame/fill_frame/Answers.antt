@@ -1,7 +1,4 @@
 -- `writer::frame::fill_frame` meets its contract: the first DIF channels are written, and the rest is as it was. Assumes nothing.
-use mathlib.Core.Path.{refl}
-use Prim.Native.Nat.{◌-◌}
-use native.Mathlib.Omega.{arith}
 use borrow.Author.Rules.{rules}
 use Rattle.writer.proofs.Whole.{size_fits, start_fits, end_fits, channel_within, channel_part_asked, frame_none, frame_turn, frame_done}
 use Rattle.writer.proofs.frame.fill_frame.Goals as goal
@@ -10,7 +7,7 @@ pub overflow_mul-size : goal.overflow_mul-size
 overflow_mul-size c = search (size_fits, rules)
 
 pub loop-h-init : goal.loop-h-init
-loop-h-init c = (frame_none _ _ _, refl, omega arith)
+loop-h-init c = frame_none _ _ _
 
 pub overflow_mul-at : goal.overflow_mul-at
 overflow_mul-at c = search (start_fits, rules)
@@ -25,7 +22,7 @@ pub write_channel-requires : goal.write_channel-requires
 write_channel-requires c = search (channel_part_asked, rules)
 
 pub loop-h-preserved : goal.loop-h-preserved
-loop-h-preserved c = (search (frame_turn, rules), search rules, search rules)
+loop-h-preserved c = search (frame_turn, rules)
 
 pub returns : goal.returns
 returns c = search (frame_done, rules)

@@ -1,11 +1,5 @@
-use mathlib.Core.Path.{◌≡◌}
-use Prim.Native.Nat.{◌-◌, ◌≤◌}
-use lib.ListN.{length}
 use Rattle.writer.proofs.Whole.{FilledFrom, bank_at}
 use Rattle.writer.proofs.sequence.write_banks.Given as goal
 
 abbrev pub invariant-loop-a : goal.invariant-loop-a
-invariant-loop-a l = FilledFrom 480 1280 (bank_at l.y l.h l.q l.source l.asc l.samples l.macroblocks) l.a l.initial.part l.part × (length l.part ≡ length l.initial.part) × (l.a ≤ 9)
-
-abbrev pub decreases-loop-a : goal.decreases-loop-a
-decreases-loop-a l = 9 - l.a
+invariant-loop-a l = FilledFrom 480 1280 (bank_at l.bank.system l.h l.q l.bank.source l.bank.asc l.bank.samples.now l.bank.macroblocks.now) l.a l.initial.part l.part
