@@ -1,6 +1,5 @@
-// What the test programs share: lines of fields, scripts of tries, and what is put into frames and lists.
+// What the test programs share: scripts of tries, and what is put into frames and lists and printed of them.
 #![tactic(auto)]
 
-pub mod lines;
 pub mod script;
 pub mod values;

@@ -1,5 +1,5 @@
 // What is put into frames and lists, and what is printed of them.
-use crate::lines;
+use std::io;
 
 // What a lent number holds before a call.
 pub const MARK: i32 = 7777777;
@@ -7,17 +7,15 @@ pub const MARK: i32 = 7777777;
 // Numbers of the whole range.
 pub fn fill_numbers(numbers: &mut [i32]) {
     let mut x: u32 = 7;
-    let mut i = 0;
-    while i < numbers.len() {
-        numbers[i] = (x as i32) - 32768;
+    for n in numbers.iter_mut() {
+        *n = (x as i32).saturating_sub(32768);
         x = (x + 2731) % 65537;
-        i += 1;
     }
 }
 
 pub fn set_number(numbers: &mut [i32], i: usize, x: i32) {
-    if i < numbers.len() {
-        numbers[i] = x;
+    if let Some(n) = numbers.get_mut(i) {
+        *n = x;
     }
 }
 
@@ -34,66 +32,31 @@ pub fn known_numbers(numbers: &mut [i32], n: usize) {
 // Bytes of which no two macroblocks have the same 77.
 pub fn fill_macroblocks(bytes: &mut [u8]) {
     let mut low: u32 = 0;
-    let mut j = 0;
-    while j < bytes.len() {
-        bytes[j] = ((low + ((j / 37 % 256) as u32)) % 256) as u8;
+    for (j, byte) in bytes.iter_mut().enumerate() {
+        *byte = ((low + (j / 37 % 256) as u32) % 256) as u8;
         low = (low + 6) % 256;
-        j += 1;
     }
 }
 
 // Bytes of a small generator.
 pub fn fill_rubbish(bytes: &mut [u8]) {
     let mut x: u32 = 1;
-    let mut j = 0;
-    while j < bytes.len() {
-        bytes[j] = (x % 256) as u8;
+    for byte in bytes.iter_mut() {
+        *byte = (x % 256) as u8;
         x = (x * 75 + 74) % 65537;
-        j += 1;
-    }
-}
-
-pub fn fill_marks(numbers: &mut [i32]) {
-    let mut i = 0;
-    while i < numbers.len() {
-        numbers[i] = MARK;
-        i += 1;
     }
 }
 
 // ---- parts
 
 // The first n of a lent slice, or all of it where there are fewer.
-pub fn some_numbers(numbers: &[i32], n: usize) -> &[i32] {
-    if n <= numbers.len() {
-        return &numbers[0..n];
-    }
-    numbers
+pub fn first<T>(items: &[T], n: usize) -> &[T] {
+    items.get(..n).unwrap_or(items)
 }
 
 // Those behind the first n, or none.
-pub fn numbers_from(numbers: &[i32], n: usize) -> &[i32] {
-    let end = numbers.len();
-    if n <= end {
-        return &numbers[n..end];
-    }
-    &numbers[0..0]
-}
-
-pub fn some_bytes(bytes: &[u8], n: usize) -> &[u8] {
-    if n <= bytes.len() {
-        return &bytes[0..n];
-    }
-    bytes
-}
-
-pub fn size(x: u32) -> usize {
-    x as usize
-}
-
-// The numbers of eight audio channels.
-pub fn eight(count: u32) -> usize {
-    8 * (count as usize)
+pub fn behind<T>(items: &[T], n: usize) -> &[T] {
+    items.get(n..).unwrap_or(&[])
 }
 
 pub fn byte(x: u32) -> u8 {
@@ -109,119 +72,77 @@ pub fn macroblock_bytes(system: u32, bytes: &[u8]) -> &[u8] {
     if system == 1 {
         return bytes;
     }
-    some_bytes(bytes, 415800)
+    first(bytes, 415800)
 }
 
 // ---- sums and counts
 
-pub fn print_sum(bytes: &[u8]) {
-    let mut s1: u32 = 1;
-    let mut s2: u32 = 0;
-    let mut i = 0;
-    while i < bytes.len() {
-        s1 = (s1 + base::wide(bytes[i])) % 65521;
-        s2 = (s2 + s1) % 65521;
-        i += 1;
-    }
-    lines::field(s1);
-    lines::field(s2);
+fn added((s1, s2): (u32, u32), x: u32) -> (u32, u32) {
+    let s1 = (s1 % 65521 + x % 65521) % 65521;
+    (s1, (s2 % 65521 + s1) % 65521)
 }
 
-// A number of 16 bits with its sign, 32,768 up; 100,000 where it is none.
+// An Adler checksum.
+pub fn sum_of_bytes(bytes: &[u8]) -> (u32, u32) {
+    bytes
+        .iter()
+        .fold((1, 0), |sums, x| added(sums, u32::from(*x)))
+}
+
+// The same of numbers, as they are printed.
+pub fn sum_of_numbers(numbers: &[i32]) -> (u32, u32) {
+    numbers
+        .iter()
+        .fold((1, 0), |sums, x| added(sums, raised(*x)))
+}
+
+// A number of 16 bits with its sign, or lost, 32,768 up; 100,000 where it is neither.
 fn raised(x: i32) -> u32 {
-    if x < 0 {
-        let below = (-1 - x) as u32;
-        return if below < 32768 { 32767 - below } else { 100000 };
-    }
-    let level = x as u32;
-    if level <= 32768 {
-        level + 32768
-    } else {
-        100000
+    match u32::try_from(x.saturating_add(32768)) {
+        Ok(up) if up <= 65536 => up,
+        _ => 100000,
     }
 }
 
-// A sum of no number past 65,520.
-fn sum(a: u32, b: u32) -> u32 {
-    (a % 65521 + b % 65521) % 65521
+pub fn count(numbers: &[i32], x: i32) -> usize {
+    numbers.iter().filter(|n| **n == x).count()
 }
 
-pub fn print_numbers(numbers: &[i32]) {
-    let mut s1: u32 = 1;
-    let mut s2: u32 = 0;
-    let mut i = 0;
-    while i < numbers.len() {
-        s1 = sum(s1, raised(numbers[i]));
-        s2 = sum(s2, s1);
-        i += 1;
-    }
-    lines::field(s1);
-    lines::field(s2);
-}
+// ---- fields, each behind a tab
 
-pub fn print_number(numbers: &[i32], i: usize) {
-    if i < numbers.len() {
-        lines::field(raised(numbers[i]));
+pub fn print_number(rt: &impl Print, numbers: &[i32], i: usize) -> io::Result<()> {
+    if let Some(x) = numbers.get(i) {
+        let up = raised(*x);
+        print!(rt; "\t{up}")?;
     }
+    Ok(())
 }
 
 // The first, the second and the last of n.
-pub fn print_ends(numbers: &[i32], n: usize) {
-    print_number(numbers, 0);
-    print_number(numbers, 1);
+pub fn print_ends(rt: &impl Print, numbers: &[i32], n: usize) -> io::Result<()> {
+    print_number(rt, numbers, 0)?;
+    print_number(rt, numbers, 1)?;
     if n > 0 {
-        print_number(numbers, n - 1);
+        print_number(rt, numbers, n - 1)?;
     }
+    Ok(())
 }
 
-// One more, where the byte is another.
-fn other(n: u32, x: u8, value: u8) -> u32 {
-    if x == value { n } else { n % 1000000 + 1 }
-}
-
-pub fn count_other(bytes: &[u8], value: u8) -> u32 {
-    let mut n: u32 = 0;
-    let mut i = 0;
-    while i < bytes.len() {
-        n = other(n, bytes[i], value);
-        i += 1;
+pub fn print_list(rt: &impl Print, list: &[u32]) -> io::Result<()> {
+    for x in list {
+        print!(rt; "\t{x}")?;
     }
-    n
+    Ok(())
 }
 
-// One more, where the number is the one looked for.
-fn more(n: u32, x: i32, value: i32) -> u32 {
-    if x == value { n % 1000000 + 1 } else { n }
-}
-
-pub fn count_number(numbers: &[i32], value: i32) -> u32 {
-    let mut n: u32 = 0;
-    let mut i = 0;
-    while i < numbers.len() {
-        n = more(n, numbers[i], value);
-        i += 1;
+pub fn print_hex(rt: &impl Print, bytes: &[u8]) -> io::Result<()> {
+    for x in bytes {
+        print!(rt; "\t{x:02X}")?;
     }
-    n
+    Ok(())
 }
 
-pub fn print_list(list: &[u32]) {
-    let mut i = 0;
-    while i < list.len() {
-        lines::field(list[i]);
-        i += 1;
-    }
-}
-
-// The bytes from one place up to another, as far as there are any.
-pub fn print_hex(bytes: &[u8], from: usize, end: usize) {
-    let mut i = from;
-    while i < end {
-        if i < bytes.len() {
-            lines::hex(bytes[i]);
-        }
-        i += 1;
-    }
-}
+// ---- frames
 
 // Writes a frame of so many bytes: the writer's answer.
 pub fn write(
@@ -234,18 +155,10 @@ pub fn write(
     frame: &mut [u8],
     size: usize,
 ) -> u32 {
-    if size <= frame.len() {
-        return writer::write_frame(
-            system,
-            count,
-            numbers,
-            macroblocks,
-            time,
-            group,
-            &mut frame[0..size],
-        );
+    match frame.get_mut(..size) {
+        Some(part) => writer::write_frame(system, count, numbers, macroblocks, time, group, part),
+        None => 99,
     }
-    99
 }
 
 // Writes a frame of known contents over the first bytes of the frame: the writer's answer.
@@ -257,12 +170,12 @@ pub fn known_frame(
     macroblocks: &[u8],
     frame: &mut [u8],
 ) -> u32 {
-    let n = eight(count);
+    let n = 8 * (count as usize);
     known_numbers(numbers, n);
     write(
         system,
         count,
-        some_numbers(numbers, n),
+        first(numbers, n),
         macroblock_bytes(system, macroblocks),
         &[byte(pc1), 0xD9, 0x59, 0xE3],
         &[0x12, 0x34, 0x56, 0x78],

@@ -7,57 +7,85 @@
 mod asks;
 mod changes;
 
-use try_kit::script::{Fields, Line};
-use try_kit::{lines, script, values};
+use std::io;
+use try_kit::script::Line;
+use try_kit::{script, values};
 
 // A frame of known contents, over the first bytes of the frame: system, count, PC1 of the time code.
-fn write(f: Fields, numbers: &mut [i32], macroblocks: &[u8], frame: &mut [u8]) {
-    let answer = values::known_frame(f.a, f.b, f.c, numbers, macroblocks, frame);
-    lines::field(f.a);
-    lines::field(f.b);
-    lines::field(answer);
-    lines::end();
+fn write(
+    rt: &impl Print,
+    line: Line<'_>,
+    numbers: &mut [i32],
+    macroblocks: &[u8],
+    frame: &mut [u8],
+) -> io::Result<()> {
+    let [system, count, pc1, ..] = line.numbers;
+    let answer = values::known_frame(system, count, pc1, numbers, macroblocks, frame);
+    println!(rt; "\t{system}\t{count}\t{answer}")
 }
 
-fn step(l: Line, numbers: &mut [i32], macroblocks: &[u8], frame: &mut [u8]) {
-    let letter = l.letter;
-    let f = l.fields;
-    match letter {
-        b'w' => write(f, numbers, macroblocks, frame),
-        b'p' => changes::patched(f, frame, numbers),
-        b'k' => changes::keep(f, frame),
-        b'o' => changes::over(f, frame),
-        b'n' => changes::replaced(f, frame, numbers),
-        b'r' => values::fill_rubbish(frame),
-        _ => asks::ask(letter, f, frame, numbers),
+// What a line tries is said by its letter.
+fn step(
+    rt: &impl Print,
+    line: Line<'_>,
+    numbers: &mut [i32],
+    macroblocks: &[u8],
+    frame: &mut [u8],
+) -> io::Result<()> {
+    match line.letter {
+        "w" => write(rt, line, numbers, macroblocks, frame),
+        "p" => changes::patched(rt, line, frame, numbers),
+        "n" => changes::replaced(rt, line, frame, numbers),
+        "k" | "o" | "r" => {
+            change(line, frame);
+            Ok(())
+        }
+        _ => ask(rt, line, frame, numbers),
     }
 }
 
-fn steps(script: &[u8], numbers: &mut [i32], macroblocks: &[u8], frame: &mut [u8]) {
-    let mut at: usize = 0;
-    while at < script.len() {
-        let l = script::line_at(script, at);
-        script::start(script, l);
-        step(l, numbers, macroblocks, frame);
-        at = script::next(script, at);
+// A line that changes bytes and prints nothing.
+fn change(line: Line<'_>, frame: &mut [u8]) {
+    match line.letter {
+        "k" => changes::keep(line, frame),
+        "o" => changes::over(line, frame),
+        _ => values::fill_rubbish(frame),
     }
 }
 
-fn run(
-    text: &mut [u8; 16384],
-    numbers: &mut [i32; 15553],
-    macroblocks: &mut [u8; 467775],
-    frame: &mut [u8; 576001],
-) {
-    let n = io::read_full(0, text);
-    values::fill_macroblocks(macroblocks);
-    steps(values::some_bytes(text, n), numbers, macroblocks, frame);
+fn ask(rt: &impl Print, line: Line<'_>, frame: &[u8], numbers: &mut [i32]) -> io::Result<()> {
+    match line.letter {
+        "t" => asks::tried(rt, line, frame, numbers),
+        "a" => asks::audio(rt, line, frame, numbers),
+        "m" => asks::macroblock(rt, line, frame),
+        "s" => asks::salvage(rt, line, frame, numbers),
+        "v" => asks::survey(rt, line, frame),
+        "c" => asks::channel(rt, line, numbers),
+        _ => Ok(()),
+    }
 }
 
-fn main() {
-    let mut text = [0u8; 16384];
-    let mut numbers = [0i32; 15553];
-    let mut macroblocks = [0u8; 467775];
-    let mut frame = [0u8; 576001];
-    run(&mut text, &mut numbers, &mut macroblocks, &mut frame);
+fn steps(
+    rt: &impl Print,
+    text: &str,
+    numbers: &mut [i32],
+    macroblocks: &[u8],
+    frame: &mut [u8],
+) -> io::Result<()> {
+    for line in text.lines() {
+        let line = script::parse(line);
+        script::start(rt, line)?;
+        step(rt, line, numbers, macroblocks, frame)?;
+    }
+    Ok(())
+}
+
+fn main(rt: HostRuntime) -> io::Result<()> {
+    let alloc = rt.alloc();
+    let text = io::read_to_string(alloc, rt.reader())?;
+    let mut numbers = vec![in alloc; 0i32; 15553]?;
+    let mut macroblocks = vec![in alloc; 0u8; 467775]?;
+    let mut frame = vec![in alloc; 0u8; 576001]?;
+    values::fill_macroblocks(&mut macroblocks);
+    steps(&rt, text.as_str(), &mut numbers, &macroblocks, &mut frame)
 }

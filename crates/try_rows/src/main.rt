@@ -2,123 +2,88 @@
 // V number; where the slot carries a macroblock, h, i, j and k of its CM, and 1 if that macroblock lies in this slot.
 #![tactic(auto)]
 
-use paper::{BlockNumber, System};
-use try_kit::lines;
+use paper::{BlockNumber, Slot, System};
+use std::io;
 
 // CM h,i,j,k of a number, in ten rows and in eleven. The edge unit is row 11 of DIF channel 0.
-fn ten_rows(b: u32) {
-    lines::field(b / 1350);
-    lines::field(b / 135 % 10);
-    lines::field(b / 27 % 5);
-    lines::field(b % 27);
+fn ten_rows(b: u32) -> [u32; 4] {
+    [b / 1350, b / 135 % 10, b / 27 % 5, b % 27]
 }
 
-fn eleven_rows(b: u32) {
+fn eleven_rows(b: u32) -> [u32; 4] {
     if b < 5940 {
-        lines::field(b / 1485);
-        lines::field(b / 135 % 11);
-        lines::field(b / 27 % 5);
-        lines::field(b % 27);
+        [b / 1485, b / 135 % 11, b / 27 % 5, b % 27]
     } else {
-        lines::field(0);
-        lines::field(11);
-        lines::field((b - 5940) / 27);
-        lines::field((b - 5940) % 27);
+        [0, 11, (b - 5940) / 27, (b - 5940) % 27]
     }
 }
 
-fn cm(y: System, b: u32) {
+fn cm(y: System, b: u32) -> [u32; 4] {
     match y {
-        System::I60 => ten_rows(b),
         System::I50 => eleven_rows(b),
-        System::P60 => ten_rows(b),
-        System::P50 => ten_rows(b),
+        System::I60 | System::P60 | System::P50 => ten_rows(b),
     }
 }
 
-// 1 if macroblock b lies in this slot.
-fn lies(y: System, b: u32, h: u32, q: u32, v: u32) -> u32 {
-    match picture::carrier(y, b) {
-        Some(s) => {
-            if (s.channel == h) & (s.sequence == q) & (s.video.0 == v) {
-                1
-            } else {
-                0
-            }
-        }
-        None => 0,
+fn row(rt: &impl Print, table: u8, y: System, h: u32, q: u32, v: u32) -> io::Result<()> {
+    let number = y as u32;
+    print!(rt; "{table}\t{number}\t{h}\t{q}\t{v}")?;
+    if let Some(b) = picture::carried(y, h, q, BlockNumber(v)) {
+        let [channel, i, j, k] = cm(y, b);
+        let slot = Slot {
+            channel: h,
+            sequence: q,
+            video: BlockNumber(v),
+        };
+        let lies = u32::from(picture::carrier(y, b) == Some(slot));
+        print!(rt; "\t{channel}\t{i}\t{j}\t{k}\t{lies}")?;
     }
-}
-
-fn number(y: System) -> u32 {
-    match y {
-        System::I60 => 0,
-        System::I50 => 1,
-        System::P60 => 2,
-        System::P50 => 3,
-    }
-}
-
-fn row(table: &[u8], y: System, h: u32, q: u32, v: u32) {
-    lines::start(table);
-    lines::field(number(y));
-    lines::field(h);
-    lines::field(q);
-    lines::field(v);
-    match picture::carried(y, h, q, BlockNumber(v)) {
-        Some(b) => {
-            cm(y, b);
-            lines::field(lies(y, b, h, q, v));
-        }
-        None => {}
-    }
-    lines::end();
+    println!(rt)
 }
 
 // V0 to V4 of sequence 0.
-fn first(table: &[u8], y: System, h: u32) {
-    row(table, y, h, 0, 0);
-    row(table, y, h, 0, 1);
-    row(table, y, h, 0, 2);
-    row(table, y, h, 0, 3);
-    row(table, y, h, 0, 4);
-}
-
-fn table_22(y: System, h: u32) {
-    first(b"22", y, h);
-    row(b"22", y, h, 9, 134);
-}
-
-fn table_23(h: u32) {
-    first(b"23", System::I50, h);
-    row(b"23", System::I50, h, 10, 134);
-    row(b"23", System::I50, h, 11, 0);
-    if h == 0 {
-        row(b"23", System::I50, h, 11, 1);
+fn first(rt: &impl Print, table: u8, y: System, h: u32) -> io::Result<()> {
+    for v in 0..5 {
+        row(rt, table, y, h, 0, v)?;
     }
-    row(b"23", System::I50, h, 11, 134);
+    Ok(())
 }
 
-fn table_24(h: u32) {
-    first(b"24", System::P50, h);
-    row(b"24", System::P50, h, 9, 134);
-    row(b"24", System::P50, h, 10, 0);
-    row(b"24", System::P50, h, 10, 134);
-    row(b"24", System::P50, h, 11, 0);
-    row(b"24", System::P50, h, 11, 134);
+fn table_22(rt: &impl Print, y: System, h: u32) -> io::Result<()> {
+    first(rt, 22, y, h)?;
+    row(rt, 22, y, h, 9, 134)
 }
 
-fn main() {
-    table_22(System::I60, 0);
-    table_22(System::I60, 1);
-    table_22(System::I60, 3);
-    table_22(System::P60, 0);
-    table_22(System::P60, 1);
-    table_22(System::P60, 3);
-    table_23(0);
-    table_23(1);
-    table_23(3);
-    table_24(0);
-    table_24(1);
-    table_24(3);
+fn table_23(rt: &impl Print, h: u32) -> io::Result<()> {
+    first(rt, 23, System::I50, h)?;
+    row(rt, 23, System::I50, h, 10, 134)?;
+    row(rt, 23, System::I50, h, 11, 0)?;
+    if h == 0 {
+        row(rt, 23, System::I50, h, 11, 1)?;
+    }
+    row(rt, 23, System::I50, h, 11, 134)
+}
+
+fn table_24(rt: &impl Print, h: u32) -> io::Result<()> {
+    first(rt, 24, System::P50, h)?;
+    row(rt, 24, System::P50, h, 9, 134)?;
+    row(rt, 24, System::P50, h, 10, 0)?;
+    row(rt, 24, System::P50, h, 10, 134)?;
+    row(rt, 24, System::P50, h, 11, 0)?;
+    row(rt, 24, System::P50, h, 11, 134)
+}
+
+fn main(rt: HostRuntime) -> io::Result<()> {
+    for y in [System::I60, System::P60] {
+        for h in [0, 1, 3] {
+            table_22(&rt, y, h)?;
+        }
+    }
+    for h in [0, 1, 3] {
+        table_23(&rt, h)?;
+    }
+    for h in [0, 1, 3] {
+        table_24(&rt, h)?;
+    }
+    Ok(())
 }

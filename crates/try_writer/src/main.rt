@@ -4,57 +4,56 @@
 #![tactic(auto)]
 
 use paper::Place;
-use try_kit::script::{Fields, Line};
-use try_kit::{lines, script, values};
-use values::{byte, size, some_bytes, some_numbers};
+use std::io;
+use try_kit::script::Line;
+use try_kit::{script, values};
+use values::{behind, byte, first};
 
 // A frame of known contents: case, system, count, PC1 of the time code.
-fn known(f: Fields, numbers: &mut [i32], macroblocks: &[u8], frame: &mut [u8]) {
-    let answer = values::known_frame(f.b, f.c, f.d, numbers, macroblocks, frame);
-    lines::field(f.a);
-    lines::field(answer);
-    values::print_sum(some_bytes(frame, values::size_of(f.b)));
-    lines::end();
+fn known(
+    rt: &impl Print,
+    line: Line<'_>,
+    numbers: &mut [i32],
+    macroblocks: &[u8],
+    frame: &mut [u8],
+) -> io::Result<()> {
+    let [case, system, count, pc1, ..] = line.numbers;
+    let answer = values::known_frame(system, count, pc1, numbers, macroblocks, frame);
+    let (s1, s2) = values::sum_of_bytes(first(frame, values::size_of(system)));
+    println!(rt; "\t{case}\t{answer}\t{s1}\t{s2}")
 }
 
 // A block, by the block view: system, bytes of the frame, DIF channel, sequence, place.
-fn block(f: Fields, frame: &[u8]) {
-    let whole = some_bytes(frame, size(f.b));
-    lines::field(f.c);
-    lines::field(f.d);
-    lines::field(f.e);
-    lines::field(views::view_number(f.a, whole, f.c, f.d, Place(f.e)));
-    values::print_hex(views::view(f.a, whole, f.c, f.d, Place(f.e)), 0, 12);
-    lines::end();
-}
-
-fn place_of(a: u32) -> Place {
-    Place(6 + 16 * (a % 9))
-}
-
-fn print_word(part: &[u8], byte: u32) {
-    let at = (byte % 79) as usize;
-    values::print_hex(part, at, at + 2);
+fn block(rt: &impl Print, line: Line<'_>, frame: &[u8]) -> io::Result<()> {
+    let [system, size, channel, sequence, place, ..] = line.numbers;
+    let whole = first(frame, size as usize);
+    let number = views::view_number(system, whole, channel, sequence, Place(place));
+    let part = views::view(system, whole, channel, sequence, Place(place));
+    print!(rt; "\t{channel}\t{sequence}\t{place}\t{number}")?;
+    values::print_hex(rt, first(part, 12))?;
+    println!(rt)
 }
 
 // A sample: system, bytes of the frame, position, sequence, audio block, byte.
-fn sample(f: Fields, frame: &[u8]) {
-    let whole = some_bytes(frame, size(f.b));
-    lines::field(f.c);
-    lines::field(f.d);
-    lines::field(f.e);
-    print_word(views::view(f.a, whole, 0, f.d, place_of(f.e)), f.f);
-    lines::end();
+fn sample(rt: &impl Print, line: Line<'_>, frame: &[u8]) -> io::Result<()> {
+    let [system, size, position, sequence, block, byte, ..] = line.numbers;
+    let whole = first(frame, size as usize);
+    let place = Place(6 + 16 * (block % 9));
+    let part = views::view(system, whole, 0, sequence, place);
+    print!(rt; "\t{position}\t{sequence}\t{block}")?;
+    values::print_hex(rt, first(behind(part, byte as usize), 2))?;
+    println!(rt)
 }
 
 // The numbers anew, of which one is another: its place, and which it is.
-fn number(f: Fields, numbers: &mut [i32]) {
+fn number(line: Line<'_>, numbers: &mut [i32]) {
+    let [place, which, ..] = line.numbers;
     values::fill_numbers(numbers);
-    values::set_number(numbers, size(f.a), level(f.b));
+    values::set_number(numbers, place as usize, level(which));
 }
 
-fn level(k: u32) -> i32 {
-    match k {
+fn level(which: u32) -> i32 {
+    match which {
         0 => -32761, // what is there
         1 => 32769,
         2 => -32769,
@@ -67,65 +66,90 @@ fn level(k: u32) -> i32 {
 }
 
 // System, count, lengths of sound, macroblocks, time code, binary group and frame, the time code's bytes, the binary group's byte.
-fn answer(f: Fields, numbers: &[i32], macroblocks: &[u8], frame: &mut [u8]) -> u32 {
-    let g = byte(f.l);
+fn answer(line: Line<'_>, numbers: &[i32], macroblocks: &[u8], frame: &mut [u8]) -> u32 {
+    let [
+        system,
+        count,
+        sound,
+        video,
+        time,
+        group,
+        size,
+        pc1,
+        pc2,
+        pc3,
+        pc4,
+        pack,
+    ] = line.numbers;
+    let codes = [byte(pc1), byte(pc2), byte(pc3), byte(pc4), 0];
+    let packs = [byte(pack); 5];
     values::write(
-        f.a,
-        f.b,
-        some_numbers(numbers, size(f.c)),
-        some_bytes(macroblocks, size(f.d)),
-        some_bytes(&[byte(f.h), byte(f.i), byte(f.j), byte(f.k), 0], size(f.e)),
-        some_bytes(&[g, g, g, g, g], size(f.f)),
+        system,
+        count,
+        first(numbers, sound as usize),
+        first(macroblocks, video as usize),
+        first(&codes, time as usize),
+        first(&packs, group as usize),
         frame,
-        size(f.g),
+        size as usize,
     )
 }
 
-fn refused(f: Fields, numbers: &[i32], macroblocks: &[u8], frame: &mut [u8]) {
-    base::fill(frame, 0xA5);
-    lines::field(answer(f, numbers, macroblocks, frame));
-    lines::field(values::count_other(frame, 0xA5));
-    lines::end();
+fn refused(
+    rt: &impl Print,
+    line: Line<'_>,
+    numbers: &[i32],
+    macroblocks: &[u8],
+    frame: &mut [u8],
+) -> io::Result<()> {
+    frame.fill(0xA5);
+    let answer = answer(line, numbers, macroblocks, frame);
+    let others = frame.iter().filter(|x| **x != 0xA5).count();
+    println!(rt; "\t{answer}\t{others}")
 }
 
-fn step(l: Line, numbers: &mut [i32], macroblocks: &[u8], frame: &mut [u8]) {
-    let letter = l.letter;
-    let f = l.fields;
-    match letter {
-        b'k' => known(f, numbers, macroblocks, frame),
-        b'b' => block(f, frame),
-        b's' => sample(f, frame),
-        b'n' => number(f, numbers),
-        b'a' => refused(f, numbers, macroblocks, frame),
-        _ => {}
+// What a line tries is said by its letter.
+fn step(
+    rt: &impl Print,
+    line: Line<'_>,
+    numbers: &mut [i32],
+    macroblocks: &[u8],
+    frame: &mut [u8],
+) -> io::Result<()> {
+    match line.letter {
+        "k" => known(rt, line, numbers, macroblocks, frame),
+        "b" => block(rt, line, frame),
+        "s" => sample(rt, line, frame),
+        "a" => refused(rt, line, numbers, macroblocks, frame),
+        "n" => {
+            number(line, numbers);
+            Ok(())
+        }
+        _ => Ok(()),
     }
 }
 
-fn steps(script: &[u8], numbers: &mut [i32], macroblocks: &[u8], frame: &mut [u8]) {
-    let mut at: usize = 0;
-    while at < script.len() {
-        let l = script::line_at(script, at);
-        script::start(script, l);
-        step(l, numbers, macroblocks, frame);
-        at = script::next(script, at);
+fn steps(
+    rt: &impl Print,
+    text: &str,
+    numbers: &mut [i32],
+    macroblocks: &[u8],
+    frame: &mut [u8],
+) -> io::Result<()> {
+    for line in text.lines() {
+        let line = script::parse(line);
+        script::start(rt, line)?;
+        step(rt, line, numbers, macroblocks, frame)?;
     }
+    Ok(())
 }
 
-fn run(
-    text: &mut [u8; 16384],
-    numbers: &mut [i32; 15360],
-    macroblocks: &mut [u8; 467775],
-    frame: &mut [u8; 576000],
-) {
-    let n = io::read_full(0, text);
-    values::fill_macroblocks(macroblocks);
-    steps(some_bytes(text, n), numbers, macroblocks, frame);
-}
-
-fn main() {
-    let mut text = [0u8; 16384];
-    let mut numbers = [0i32; 15360];
-    let mut macroblocks = [0u8; 467775];
-    let mut frame = [0u8; 576000];
-    run(&mut text, &mut numbers, &mut macroblocks, &mut frame);
+fn main(rt: HostRuntime) -> io::Result<()> {
+    let alloc = rt.alloc();
+    let text = io::read_to_string(alloc, rt.reader())?;
+    let mut numbers = vec![in alloc; 0i32; 15360]?;
+    let mut macroblocks = vec![in alloc; 0u8; 467775]?;
+    let mut frame = vec![in alloc; 0u8; 576000]?;
+    values::fill_macroblocks(&mut macroblocks);
+    steps(&rt, text.as_str(), &mut numbers, &macroblocks, &mut frame)
 }
