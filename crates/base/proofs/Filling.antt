@@ -1,4 +1,4 @@
--- A list that a loop fills part by part, or with one value: what comes first is written, and the rest is as it was. Assumes nothing.
+-- A list that a loop fills part by part: what comes first is written, and the rest is as it was. Assumes nothing.
 use mathlib.Core.Path.{◌≡◌, refl, sym, ap, ◌∙◌}
 use mathlib.Core.List.{List, [], ◌∷◌, ◌++◌, append_assoc, append-nil}
 use Prim.Native.Nat.{ℕ, zero, suc, ◌+◌, ◌-◌, ◌*◌, ◌≤◌, ◌<◌}
@@ -40,19 +40,3 @@ module _ {A : Type 0} where
       let e : k ≡ m = le_antisymm le ge in
       let n' : length d ≡ k * w = n ∙ ap (λ (i : ℕ). i * w) (sym e) in
       rw (← e) (ex ∙ rw (← n', drop-length) (append-nil (run f k)))
-
--- ---- one value throughout: the first i elements are v, and the rest is as it was
-
-module _ {A : Type 0} (v : A) where
-  fill_next : (i : ℕ) (d : List A) → i < length d → set (replicate i v ++ drop i d) i v ≡ replicate (suc i) v ++ drop (suc i) d
-  fill_next i [] l = absurd (not-suc-le-zero l)
-  fill_next zero (x ∷ d) l = refl
-  fill_next (suc i) (x ∷ d) l = ap (λ (t : List A). v ∷ t) (fill_next i d (le_of_suc-le-suc l))
-
-  -- a turn
-  pub fill_turn : (d xs : List A) (i : ℕ) → xs ≡ replicate i v ++ drop i d → length xs ≡ length d → i < length xs → set xs i v ≡ replicate (i + 1) v ++ drop (i + 1) d
-  fill_turn d xs i e n h = let h' : i < length d = omega arith in rw (e, add-one) (fill_next i d h')
-
-  -- after the last turn
-  pub fill_end : (d xs : List A) (i : ℕ) → xs ≡ replicate i v ++ drop i d → length xs ≡ length d → i ≤ length d → length xs ≤ i → xs ≡ replicate (length d) v
-  fill_end d xs i e n h l = let q : i ≡ length d = omega arith in e ∙ rw (q, drop-length) (append-nil _)

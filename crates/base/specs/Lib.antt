@@ -1,6 +1,5 @@
 pub mod Pick
 pub mod Run
 pub mod Below
-pub mod Bytes
 pub mod Put
 pub mod Calls

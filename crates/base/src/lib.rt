@@ -2,14 +2,6 @@
 #![tactic(auto)]
 
 ghost use Rattle.std.specs.Prelude.{◌≡◌, length, get_or, replicate};
-ghost use Rattle.base.specs.Bytes.{Byte};
-
-// A byte as a number of 32 bits.
-pub fn wide(x: u8) -> u32
-    ensures { Byte x result }
-{
-    u32::from(x)
-}
 
 // A byte of a list, or 0 past its end.
 pub fn byte_at(bytes: &[u8], i: usize) -> u8

@@ -8,14 +8,19 @@ ghost use Rattle.blocks.specs.Fits.{video_fits};
 
 use crate::parts;
 use layout::BLOCK;
-use paper::{BlockId, System};
+use paper::{BlockId, Slot, System};
 
 fn write_video(block: &mut [u8], id: BlockId, y: System, macroblocks: &[u8])
     requires { VideoAsked block.old y macroblocks.now }
     ensures { block.new ≡ id_bytes id ++ video_bytes y macroblocks.now id.channel id.dseq id.dbn.0 }
 {
     parts::put_id(&mut block[0..3], id);
-    match picture::carried(y, id.channel, id.dseq, id.dbn) {
+    let slot = Slot {
+        channel: id.channel,
+        sequence: id.dseq,
+        video: id.dbn,
+    };
+    match picture::carried(y, slot) {
         Some(b) => {
             let at = 77 * (b as usize);
             let to = at + 77;

@@ -10,10 +10,10 @@ fn word(block: &[u8]) -> u32
     requires { 4 ≤ length block.now }
     ensures { Word block.now result }
 {
-    let byte0 = base::wide(block[0]);
-    let byte1 = base::wide(block[1]);
-    let byte2 = base::wide(block[2]);
-    let byte3 = base::wide(block[3]);
+    let byte0 = u32::from(block[0]);
+    let byte1 = u32::from(block[1]);
+    let byte2 = u32::from(block[2]);
+    let byte3 = u32::from(block[3]);
     byte0 + 256 * byte1 + 65536 * byte2 + 16777216 * byte3
 }
 

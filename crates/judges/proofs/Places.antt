@@ -26,16 +26,13 @@ use Rattle.rules_format.proofs.Systems.{sequences_le, half_twice}
 use Rattle.rules_format.proofs.Places.{place_in_below, place_for_lem}
 use Rattle.rules_packs.proofs.Vaux.{vs_below}
 use Rattle.rules_packs.proofs.Aaux.{as_below}
-use Rattle.judges.specs.Asked.{sequence_from, Low, InBlock, FirstInHalf}
+use Rattle.judges.specs.Asked.{sequence_from, InBlock, FirstInHalf}
 
 -- ---- sequences
 
 module _ (y : System) (h q : ℕ) where
   pub start_le : (n : ℕ) → n ≡ sequences_of y → n * h ≤ 12 * h
   start_le n e = mul-le-mul_right h (rw e (sequences_le y))
-
-  pub start_low : (n : ℕ) → n ≡ sequences_of y → h < 4294967296 → q < 4294967296 → Low ((n * h + q) * 12000)
-  start_low n e lh lq = record { low = omega (arith, start_le n e) }
 
   pub start_is : (frame : List ℕ) (n : ℕ) → n ≡ sequences_of y → sequence_from frame ((n * h + q) * 12000) ≡ sequence_at y frame h q
   unfolding sequence_from sequence_at

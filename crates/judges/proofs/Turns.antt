@@ -71,9 +71,6 @@ module _ (y : System) (frame : List ℕ) (test : Test) (good : Bool) where
   unfolding every_in every_sequence
   channels_done h so_far all = so_far ∙ rw all refl
 
-pub all_asked : (y : System) (n : ℕ) → n ≡ sequences_of y → SequencesAsked 0 n
-all_asked y n e = record { first = omega arith; few = omega (arith, e, sequences_le y) }
-
 -- ---- the half of an audio channel
 
 pub half_asked : (y : System) (c q s : ℕ) → FirstInHalf y c q → s ≡ half_of y → SequencesAsked q s

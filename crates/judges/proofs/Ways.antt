@@ -1,70 +1,21 @@
--- The ways out of what is asked of one sequence. Assumes nothing.
+-- The ways out of what is asked of packs of subcode, and of the packs that come first. Assumes nothing.
 use mathlib.Core.Path.{◌≡◌, refl, sym, ap, ◌∙◌}
-use mathlib.Core.Bool.{Bool, true, false, not, ◌||◌}
+use mathlib.Core.Bool.{Bool, true, false}
 use mathlib.Core.List.{List}
-use Prim.Native.Nat.{ℕ, ◌+◌, ◌/◌}
+use Prim.Native.Nat.{ℕ}
 use lib.Dec.{eqb}
-use lib.ListN.{get_or}
 use borrow.Author.Tests.{eq-eqb, ne_eqb}
-use Rattle.base.specs.Bytes.{Byte}
 use Rattle.base.specs.Pick.{pick}
 use Rattle.paper.specs.declared.System.{System}
 use Rattle.paper.specs.declared.Pack.{Pack}
 use Rattle.paper.specs.declared.SubcodePack.{SubcodePack}
 use Rattle.paper.specs.declared.SubcodePack.TheVariants.{TimeCode, BinaryGroup, NoPack}
 use Rattle.rules_format.specs.Systems.{rate_of}
-use Rattle.rules_packs.specs.Header.{flagged}
-use Rattle.rules_packs.specs.Vaux.{vs_ok}
-use Rattle.rules_packs.specs.Aaux.{as_ok, count_in, mode_in}
-use Rattle.rules_reads.specs.Check.{header_in, vs_in, dsf_agrees, vs_agrees}
 use Rattle.rules_reads.specs.Audio.{as_in, first_as}
 use Rattle.rules_format.specs.Sound.{dif_of}
-use Rattle.rules_reads.specs.Time.{ssyb_in, time_first, group_first, with_bit6, settled, same_pack, pack_agrees, subcode_agrees}
-use Rattle.judges.specs.declared.Test.{Test}
-use Rattle.judges.specs.declared.Test.TheVariants.{Dsf, Vs, Unflagged, AsKeeps, CountIs, ModeIs, Subcode}
+use Rattle.rules_reads.specs.Time.{ssyb_in, time_first, group_first, with_bit6, settled, same_pack, pack_agrees}
 use Rattle.judges.specs.Asked.{FirstInHalf}
 use Rattle.rules_format.specs.Blocks.{sequence_at}
-use Rattle.paper.specs.declared.SubcodeData.{SubcodeData}
-use Rattle.judges.specs.Tests.{test_of}
-
--- ---- the header and VS
-
-module _ (part : List ℕ) (b : ℕ) where
-  pub flagged_way : (k : ℕ) → b ≡ get_or (header_in part) (4 + k) 0 → eqb (b / 128) 1 ≡ flagged k (header_in part)
-  flagged_way k e = rw e refl
-
-  pub dsf_way : (y : System) (q w rate : ℕ) → b ≡ get_or (header_in part) 3 0 → Byte b w → rate ≡ rate_of y → eqb (w / 128) rate ≡ dsf_agrees y q part
-  dsf_way y q w rate e ew er = rw (ew.is, e, er) refl
-
-pub vs_judged : (y : System) (q : ℕ) (part : List ℕ) (p : Pack) (skip good : Bool) → skip ≡ flagged 2 (header_in part) → p ≡ vs_in q part → good ≡ vs_ok y p
-    → (skip || good) ≡ vs_agrees y q part
-vs_judged y q part p skip good es ep eg = rw (es, eg, ep) refl
-
--- ---- the tests
-
-module _ (y : System) (test : Test) (q : ℕ) (part : List ℕ) (x : Bool) where
-  pub dsf_arm : test ≡ Dsf → x ≡ dsf_agrees y q part → x ≡ test_of y test q part
-  dsf_arm e ex = ex ∙ rw e refl
-
-  pub vs_arm : test ≡ Vs → x ≡ vs_agrees y q part → x ≡ test_of y test q part
-  vs_arm e ex = ex ∙ rw e refl
-
-  pub flag_arm : (k : ℕ) → test ≡ Unflagged k → x ≡ flagged k (header_in part) → not x ≡ test_of y test q part
-  flag_arm k e ex = rw (ex, e) refl
-
-  pub as_arm : (c : ℕ) (p : Pack) → test ≡ AsKeeps c → p ≡ as_in q part → x ≡ as_ok y c p → x ≡ test_of y test q part
-  as_arm c p e ep ex = ex ∙ rw (ep, e) refl
-
-  pub subcode_arm : (said : SubcodeData) → test ≡ Subcode said → x ≡ subcode_agrees y said.time said.group q part → x ≡ test_of y test q part
-  subcode_arm said e ex = ex ∙ rw e refl
-
-pub count_arm : (y : System) (test : Test) (q : ℕ) (part : List ℕ) (count k : ℕ) (p : Pack) → test ≡ CountIs count → p ≡ as_in q part → k ≡ count_in p
-    → eqb k count ≡ test_of y test q part
-count_arm y test q part count k p e ep ek = rw (ek, ep, e) refl
-
-pub mode_arm : (y : System) (test : Test) (q : ℕ) (part : List ℕ) (mode m : ℕ) (p : Pack) → test ≡ ModeIs mode → p ≡ as_in q part → m ≡ mode_in p
-    → eqb m mode ≡ test_of y test q part
-mode_arm y test q part mode m p e ep em = rw (em, ep, e) refl
 
 -- ---- packs of subcode
 

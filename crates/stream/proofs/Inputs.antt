@@ -10,7 +10,6 @@ use lib.ListN.{length, take, drop, get_or, length-append, length-drop, get_or-ap
 use lib.Seq.{length-take-le, take-append-le, drop-append-le, drop_at, take_all}
 use borrow.Author.Tests.{eq-eqb, ne_eqb, le-leb}
 use Rattle.base.specs.Run.{run}
-use Rattle.base.specs.Bytes.{Byte}
 use Rattle.base.specs.Calls.{ExactlyOne}
 use Rattle.base.proofs.Cases.{by_eq, by_lt}
 use Rattle.base.proofs.Picks.{pick_true, pick_false}
@@ -79,10 +78,10 @@ pub rate_other : (dsf : ℕ) → (dsf ≡ 0 → ⊥) → I50 ≡ of_rate dsf
 rate_other zero d = absurd (d refl)
 rate_other (suc k) d = refl
 
-pub system_first : (count : ℕ) (y : System) (part : List ℕ) (b w : ℕ) (r : System) → count ≡ 0 → b ≡ get_or part 3 0 → Byte b w → r ≡ of_rate (w / 128) → r ≡ system_after count y part
+pub system_first : (count : ℕ) (y : System) (part : List ℕ) (b w : ℕ) (r : System) → count ≡ 0 → b ≡ get_or part 3 0 → b < 256 → w ≡ b → r ≡ of_rate (w / 128) → r ≡ system_after count y part
 unfolding system_after system_from
-system_first count y part b w r z eb ew er =
-    let e : w / 128 ≡ get_or part 3 0 / 128 % 2 = omega (arith, eb, ew.is, ew.below) in
+system_first count y part b w r z eb lb ew er =
+    let e : w / 128 ≡ get_or part 3 0 / 128 % 2 = omega (arith, eb, ew, lb) in
     er ∙ ap of_rate e ∙ sym (pick_true _ _ (eq-eqb _ _ z))
 
 pub system_later : (count : ℕ) (y : System) (part : List ℕ) → (count ≡ 0 → ⊥) → y ≡ system_after count y part

@@ -66,7 +66,7 @@ fn system_after(count: u32, system: System, part: &[u8]) -> System
     ensures { result ≡ system_after count system part.now }
 {
     if count == 0 {
-        return system_of_rate(base::wide(base::byte_at(part, 3)) / 128);
+        return system_of_rate(u32::from(base::byte_at(part, 3)) / 128);
     }
     system
 }

@@ -28,13 +28,13 @@ fn cm(y: System, b: u32) -> [u32; 4] {
 fn row(rt: &impl Print, table: u8, y: System, h: u32, q: u32, v: u32) -> io::Result<()> {
     let number = y as u32;
     print!(rt; "{table}\t{number}\t{h}\t{q}\t{v}")?;
-    if let Some(b) = picture::carried(y, h, q, BlockNumber(v)) {
+    let slot = Slot {
+        channel: h,
+        sequence: q,
+        video: BlockNumber(v),
+    };
+    if let Some(b) = picture::carried(y, slot) {
         let [channel, i, j, k] = cm(y, b);
-        let slot = Slot {
-            channel: h,
-            sequence: q,
-            video: BlockNumber(v),
-        };
         let lies = u32::from(picture::carrier(y, b) == Some(slot));
         print!(rt; "\t{channel}\t{i}\t{j}\t{k}\t{lies}")?;
     }

@@ -4,7 +4,8 @@ use Rattle.blocks.proofs.Ways.{macroblock_within, macroblock_done, empty_done}
 use Rattle.blocks.proofs.video.write_video.Goals as goal
 
 pub slice_bounds-copy_from_slice-end-in-Some : goal.slice_bounds-copy_from_slice-end-in-Some
-slice_bounds-copy_from_slice-end-in-Some c = search (macroblock_within, rules)
+slice_bounds-copy_from_slice-end-in-Some c =
+    macroblock_within _ _ c.args.id.channel c.args.id.dseq c.args.id.dbn.0 _ c.requires _ c.carried.ensures _ c.in-Some.is
 
 pub returns-in-Some : goal.returns-in-Some
 returns-in-Some c = search (macroblock_done, rules)
