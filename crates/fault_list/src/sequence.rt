@@ -5,7 +5,7 @@ ghost use Rattle.rules_surveys.specs.Noting.{Noted};
 ghost use Rattle.judged_bits.specs.Clean.{BlockAsked, PartAsked};
 ghost use Rattle.fault_list.specs.Asked.{next_faults};
 
-use crate::{clean, list};
+use crate::list;
 use layout::{BLOCK, PLACES, SEQUENCE};
 use paper::{Fault, Place, System};
 
@@ -84,7 +84,7 @@ pub fn survey_next(y: System, h: u32, q: u32, part: &[u8], list: &mut [u32], t: 
     if 8000 <= t {
         return t;
     }
-    if clean::clean_part(part, h, q) {
+    if judged_bits::clean_part::<true>(part, h, q) {
         return t;
     }
     survey_part(part, h, q, list, t)
