@@ -28,10 +28,9 @@ fn survey_block(
     if judged_bits::judged(block) == printed + key {
         return t;
     }
-    let fault = faults::fault_of(id, h, q, layout::entry_of(printed));
-    if fault == 0 {
+    let Err(cause) = faults::fault_of(id, h, q, layout::entry_of(printed)) else {
         return t;
-    }
+    };
     list::note(
         list,
         t,
@@ -39,7 +38,7 @@ fn survey_block(
             channel: h,
             sequence: q,
             place: p,
-            fault: fault,
+            fault: layout::number_of(cause),
         },
     )
 }
