@@ -1,5 +1,6 @@
 -- What is stored of a record, the ways out of `note` and of `survey_block`, and what the loop over places keeps. Assumes nothing.
-use mathlib.Core.Path.{◌≡◌, refl, sym, ◌∙◌}
+use Rattle.std.specs.Prelude.{⊤, Result, Ok, Err}
+use mathlib.Core.Path.{◌≡◌, refl, sym, ap, ◌∙◌}
 use mathlib.Core.List.{List, [], ◌∷◌, ◌++◌, append_assoc}
 use Prim.Native.Nat.{ℕ, ◌+◌, ◌*◌, ◌/◌, ◌≤◌, ◌<◌, ◌-◌}
 use native.Mathlib.Nat.{add-sub_cancel_left}
@@ -14,6 +15,8 @@ use Rattle.paper.specs.declared.Entry.{Entry}
 use Rattle.paper.specs.declared.Place.{Place}
 use Rattle.paper.specs.declared.IdAnswer.{IdAnswer}
 use Rattle.paper.specs.declared.Fault.{Fault}
+use Rattle.paper.specs.declared.Cause.{Cause}
+use Rattle.paper.specs.Causes.{cause_number, number_said}
 use Rattle.rules_format.specs.Places.{entry_at}
 use Rattle.rules_format.specs.Blocks.{block_in}
 use Rattle.rules_format.specs.Faults.{fault_at, fault_of}
@@ -25,6 +28,7 @@ use Rattle.rules_surveys.specs.Noting.{Noted}
 use Rattle.rules_format.proofs.Places.{entry_printed}
 use Rattle.rules_surveys.proofs.FaultLists.{places_le}
 use Rattle.rules_surveys.proofs.Records.{numbers_length, noted_none, noted_one, noted_full, noted_turn}
+use Rattle.layout.proofs.Saying.{never_zero}
 use Rattle.judged_bits.specs.Asked.{JudgedBlock}
 use Rattle.judged_bits.specs.Clean.{BlockAsked}
 use Rattle.judged_bits.proofs.Clear.{clean_block}
@@ -65,13 +69,23 @@ module _ (block : List ℕ) (h q : ℕ) (p : Place) (e k t : ℕ) (list : List �
     unfolding fault_at
     is_fault = ef ∙ rw (ei, ew, a.entry, entry_printed (entry_at p)) refl
 
-    pub fault_clean : f ≡ 0 → Noted list t (block_faults block h q p.0) list t
-    fault_clean z = no_record block h q p.0 t list (sym is_fault ∙ z)
+    clean_fault : f ≡ 0 → Noted list t (block_faults block h q p.0) list t
+    clean_fault z = no_record block h q p.0 t list (sym is_fault ∙ z)
 
-    pub fault_noted : (f ≡ 0 → ⊥) → (list' : List ℕ) (r : ℕ) → Noted list t (record { channel = h; sequence = q; place = p; fault = f } ∷ []) list' r
+    noted_fault : (f ≡ 0 → ⊥) → (list' : List ℕ) (r : ℕ) → Noted list t (record { channel = h; sequence = q; place = p; fault = f } ∷ []) list' r
         → Noted list t (block_faults block h q p.0) list' r
     unfolding block_faults pick
-    fault_noted d list' r n = rw (ne_eqb (fault_at block h q p.0) 0 (λ z. d (is_fault ∙ z))) (rw is_fault at n)
+    noted_fault d list' r n = rw (ne_eqb (fault_at block h q p.0) 0 (λ z. d (is_fault ∙ z))) (rw is_fault at n)
+
+  -- said is what the fault's question answers
+  module _ (i : IdAnswer) (w : Entry) (ei : i ≡ block_answer block) (ew : w ≡ entry_of e) (said : Result ⊤ Cause) (es : number_said said ≡ fault_of i h q w) where
+    pub fault_clean : (x : ⊤) → said ≡ Ok x → Noted list t (block_faults block h q p.0) list t
+    fault_clean x ok = clean_fault i w _ ei ew es (ap number_said ok)
+
+    pub fault_noted : (cause : Cause) → said ≡ Err cause → (number : ℕ) → number ≡ cause_number cause
+        → (list' : List ℕ) (r : ℕ) → Noted list t (record { channel = h; sequence = q; place = p; fault = number } ∷ []) list' r
+        → Noted list t (block_faults block h q p.0) list' r
+    fault_noted cause err number en = noted_fault i w number ei ew (en ∙ sym (ap number_said err) ∙ es) (λ z. never_zero cause (sym en ∙ z))
 
 -- ---- survey_part
 

@@ -1,20 +1,12 @@
 -- What the functions say.
-use Rattle.std.specs.Prelude.{Bool, true, false, not, ◌&&◌, List, [], ℕ, ◌/◌, min, eqb, ltb, length, Some}
+use Rattle.std.specs.Prelude.{not, ◌&&◌, List, [], ℕ, ◌/◌, min, eqb, ltb, length, Some}
 use Rattle.base.specs.Pick.{pick}
 use Rattle.paper.specs.declared.System.{System}
-use Rattle.paper.specs.declared.IdAnswer.{IdAnswer}
-use Rattle.paper.specs.declared.IdAnswer.TheVariants.{Named, Reserved, WrongLength}
 use Rattle.paper.specs.declared.Fault.{Fault}
 use Rattle.paper.specs.declared.Survey.{Survey}
 use Rattle.rules_surveys.specs.FaultLists.{sequence_faults}
 use Rattle.rules_surveys.specs.Records.{width}
 use Rattle.rules_surveys.specs.Survey.{outside_sequences}
-
--- whether an ID names a block at all
-abbrev pub is_named : IdAnswer → Bool
-is_named (Named b s) = true
-is_named Reserved = false
-is_named WrongLength = false
 
 -- what a survey that went through answers: its total t, of a list of so many numbers
 abbrev pub tallied : ℕ → ℕ → Survey

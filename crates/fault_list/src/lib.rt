@@ -1,7 +1,6 @@
 // The faults of one sequence, noted in a lent list behind those that came before.
 #![tactic(auto)]
 
-mod clean;
 mod list;
 mod sequence;
 

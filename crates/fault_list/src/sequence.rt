@@ -5,7 +5,7 @@ ghost use Rattle.rules_surveys.specs.Noting.{Noted};
 ghost use Rattle.judged_bits.specs.Clean.{BlockAsked, PartAsked};
 ghost use Rattle.fault_list.specs.Asked.{next_faults};
 
-use crate::{clean, list};
+use crate::list;
 use layout::{BLOCK, PLACES, SEQUENCE};
 use paper::{Fault, Place, System};
 
@@ -28,10 +28,9 @@ fn survey_block(
     if judged_bits::judged(block) == printed + key {
         return t;
     }
-    let fault = faults::fault_of(id, h, q, layout::entry_of(printed));
-    if fault == 0 {
+    let Err(cause) = faults::fault_of(id, h, q, layout::entry_of(printed)) else {
         return t;
-    }
+    };
     list::note(
         list,
         t,
@@ -39,7 +38,7 @@ fn survey_block(
             channel: h,
             sequence: q,
             place: p,
-            fault: fault,
+            fault: layout::number_of(cause),
         },
     )
 }
@@ -84,7 +83,7 @@ pub fn survey_next(y: System, h: u32, q: u32, part: &[u8], list: &mut [u32], t: 
     if 8000 <= t {
         return t;
     }
-    if clean::clean_part(part, h, q) {
+    if judged_bits::clean_part::<true>(part, h, q) {
         return t;
     }
     survey_part(part, h, q, list, t)

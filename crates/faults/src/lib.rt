@@ -2,48 +2,47 @@
 #![tactic(auto)]
 
 ghost use Rattle.std.specs.Prelude.{◌≡◌, eqb, Some};
+ghost use Rattle.paper.specs.Causes.{number_said};
 ghost use Rattle.rules_format.specs.Ids.{block_answer};
 ghost use Rattle.rules_format.specs.Faults.{misnamed, fault_of, fault_at};
 ghost use Rattle.rules_surveys.specs.Survey.{outside_sequences};
 
 use layout::CHANNELS;
-use paper::{BlockId, Entry, IdAnswer, Place, System};
+use paper::{BlockId, Cause, Entry, IdAnswer, Place, System};
 
-// The fault of a named block where an entry stands, or 0.
-fn named_fault(b: BlockId, h: u32, q: u32, e: Entry) -> u32
-    ensures { result ≡ misnamed b h q e }
+// The fault of a named block where an entry stands.
+fn named_fault(b: BlockId, h: u32, q: u32, e: Entry) -> Result<(), Cause>
+    ensures { number_said result ≡ misnamed b h q e }
 {
-    let named = b.section;
-    let wanted = e.section;
-    if layout::section_code(named) != layout::section_code(wanted) {
-        return 12;
+    if b.section != e.section {
+        return Err(Cause::OtherSection);
     }
     if b.channel != h {
-        return 13;
+        return Err(Cause::OtherChannel);
     }
     if b.dseq != q {
-        return 14;
+        return Err(Cause::OtherDseq);
     }
-    if b.dbn.0 != e.number.0 {
-        return 15;
+    if b.dbn != e.number {
+        return Err(Cause::OtherDbn);
     }
-    0
+    Ok(())
 }
 
-// The fault of a block by the answer to its ID, or 0.
-pub fn fault_of(id: IdAnswer, h: u32, q: u32, e: Entry) -> u32
-    ensures { result ≡ fault_of id h q e }
+// The fault of a block by the answer to its ID.
+pub fn fault_of(id: IdAnswer, h: u32, q: u32, e: Entry) -> Result<(), Cause>
+    ensures { number_said result ≡ fault_of id h q e }
 {
     match id {
         IdAnswer::Named(b, _) => named_fault(b, h, q, e),
-        IdAnswer::Reserved => 11,
-        IdAnswer::WrongLength => 4,
+        IdAnswer::Reserved => Err(Cause::ReservedSection),
+        IdAnswer::WrongLength => Err(Cause::LentLength),
     }
 }
 
-// The fault of a block where it stands, or 0.
-pub fn fault_at(block: &[u8], h: u32, q: u32, p: Place) -> u32
-    ensures { result ≡ fault_at block.now h q p.0 }
+// The fault of a block where it stands.
+pub fn fault_at(block: &[u8], h: u32, q: u32, p: Place) -> Result<(), Cause>
+    ensures { number_said result ≡ fault_at block.now h q p.0 }
 {
     fault_of(layout::read_block(block), h, q, layout::entry_at(p))
 }
@@ -52,7 +51,7 @@ pub fn fault_at(block: &[u8], h: u32, q: u32, p: Place) -> u32
 pub fn names_entry(block: &[u8], h: u32, q: u32, e: Entry) -> bool
     ensures { result ≡ eqb (fault_of (block_answer block.now) h q e) 0 }
 {
-    fault_of(layout::read_block(block), h, q, e) == 0
+    fault_of(layout::read_block(block), h, q, e).is_ok()
 }
 
 // DIF channel or sequence outside the system.

@@ -1,8 +1,16 @@
 -- What is asked of blocks whose judged bits are compared with their places', and what such a comparison says.
-use Rattle.std.specs.Prelude.{◌≡◌, Bool, true, List, [], ℕ, ◌≤◌, ◌<◌, length}
+use Rattle.std.specs.Prelude.{◌≡◌, Bool, true, false, List, [], ℕ, ◌≤◌, ◌<◌, length}
+use Rattle.paper.specs.declared.IdAnswer.{IdAnswer}
+use Rattle.paper.specs.declared.IdAnswer.TheVariants.{Named, Reserved, WrongLength}
 use Rattle.paper.specs.declared.Fault.{Fault}
 use Rattle.rules_format.specs.Places.{place, entry_at}
 use Rattle.rules_format.specs.Judging.{printed, key_of}
+
+-- whether an ID names a block at all
+abbrev pub is_named : IdAnswer → Bool
+is_named (Named b s) = true
+is_named Reserved = false
+is_named WrongLength = false
 
 -- h is a DIF channel, and q a number that Dseq can hold
 pub record InSequence (h q : ℕ) : Type 0 where

@@ -1,9 +1,14 @@
-// The judged bits of a block's ID as one number, and those that DIF channel and sequence give.
+// The judged bits of a block's ID as one number, those that DIF channel and sequence give, and whether a sequence has those of its
+// places.
 #![tactic(auto)]
+
+mod clean;
 
 ghost use Rattle.std.specs.Prelude.{◌≡◌, ◌%◌, ◌≤◌, length};
 ghost use Rattle.rules_format.specs.Judging.{key_of};
 ghost use Rattle.judged_bits.specs.Asked.{Word, JudgedBlock};
+
+pub use clean::clean_part;
 
 // The first four bytes of a block as one number, the first lowest.
 fn word(block: &[u8]) -> u32

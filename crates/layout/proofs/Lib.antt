@@ -1,2 +1,4 @@
 pub mod Reading
 pub mod Placing
+pub mod Saying
+pub mod Refusing

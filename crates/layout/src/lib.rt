@@ -4,11 +4,13 @@
 mod ids;
 mod parts;
 mod places;
+mod refusals;
 mod systems;
 
 pub use ids::{id_bytes, read_block, read_id};
 pub use parts::no_part;
 pub use places::{entry_at, entry_of, place_in, place_of, printed_places, section_code};
+pub use refusals::{number, number_of, system_of_frame};
 pub use systems::{
     counts, frame_bytes, half, is_count, macroblocks, positions, rate, sequences, stype, system_of,
 };

@@ -38,7 +38,10 @@ module _ (y : System) (frame : List ℕ) where
   unfolding first_or_length
   first_short e = pick_false _ _ e
 
-  module _ (f : ℕ) (ef : f ≡ first_or_length y frame) where
+  module _ (f said : ℕ) (is : f ≡ said) (es : said ≡ first_or_length y frame) where
+    ef : f ≡ first_or_length y frame
+    ef = is ∙ es
+
     pub checked_fault : (f ≡ 0 → ⊥) → f ≡ whole_number y frame
     checked_fault d =
         by_bool (eqb (length frame) (48000 * sequences_of y))

@@ -12,7 +12,7 @@ use paper::System;
 pub fn checked(y: System, frame: &[u8]) -> u32
     ensures { result ≡ whole_number y frame.now }
 {
-    let fault = first_fault::first_fault(y, frame);
+    let fault = layout::number(first_fault::first_fault(y, frame));
     if fault != 0 {
         return fault;
     }

@@ -14,7 +14,6 @@ use Rattle.paper.specs.declared.System.{System}
 use Rattle.paper.specs.declared.Place.{Place}
 use Rattle.paper.specs.declared.Part.{Part}
 use Rattle.rules_format.specs.Systems.{sequences_of, system_of}
-use Rattle.rules_format.specs.Places.{place}
 use Rattle.rules_format.specs.Blocks.{block_at, no_part}
 use Rattle.rules_format.specs.Faults.{fault_at}
 use Rattle.rules_surveys.specs.Survey.{outside_sequences}
@@ -37,13 +36,13 @@ start_is y h q p n i e =
 
 -- ---- view_at: r is what is answered
 
-module _ (k : ℕ) (frame : List ℕ) (h q : ℕ) (p : Place) (s : Option System) (es : s ≡ system_of k) where
+module _ (k : ℕ) (frame : List ℕ) (h q : ℕ) (p : Place) (s : Option System) (ek : s ≡ system_of k) where
   pub view_no_system : s ≡ None → (r : Part) → r ≡ no_part 1 → ViewLies k frame h q p r
-  view_no_system e = view_lies_stopped k frame h q p 1 (sym (view_1 k frame h q p (sym es ∙ e))) (λ z. omega arith)
+  view_no_system e = view_lies_stopped k frame h q p 1 (sym (view_1 k frame h q p (sym ek ∙ e))) (λ z. omega arith)
 
   module _ (y : System) (e : s ≡ Some y) (n : ℕ) (en : n ≡ 48000 * sequences_of y) where
     known : system_of k ≡ Some y
-    known = sym es ∙ e
+    known = sym ek ∙ e
 
     pub view_wrong_length : not (eqb (length frame) n) ≡ true → (r : Part) → r ≡ no_part 2 → ViewLies k frame h q p r
     view_wrong_length d =
@@ -60,10 +59,10 @@ module _ (k : ℕ) (frame : List ℕ) (h q : ℕ) (p : Place) (s : Option System
         pub view_outside : (o || leb 150 p.0) ≡ true → (r : Part) → r ≡ no_part 3 → ViewLies k frame h q p r
         view_outside t = view_lies_stopped k frame h q p 3 (sym (view_3 k frame h q p y known whole (rw eo at t))) (λ z. omega arith)
 
-        module _ (f : (o || leb 150 p.0) ≡ false) (at fault : ℕ) (st : StartIs y h q p.0 at) (ef : fault ≡ fault_at (take (at + 80 - at) (drop at frame)) h q p.0) where
+        module _ (f : (o || leb 150 p.0) ≡ false) (at fault said : ℕ) (st : StartIs y h q p.0 at) (es : said ≡ fault_at (take (at + 80 - at) (drop at frame)) h q p.0) (ef : fault ≡ said) where
           number : fault ≡ view_number k frame h q p
           unfolding block_at
-          number = ef ∙ rw (range_part at 80 frame, st.is) refl ∙ sym (view_fault k frame h q p y known whole (rw eo at f))
+          number = ef ∙ es ∙ rw (range_part at 80 frame, st.is) refl ∙ sym (view_fault k frame h q p y known whole (rw eo at f))
 
           pub view_faulty : (fault ≡ 0 → ⊥) → (r : Part) → r ≡ no_part fault → ViewLies k frame h q p r
           view_faulty = view_lies_stopped k frame h q p fault number

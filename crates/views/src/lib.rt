@@ -34,7 +34,8 @@ pub fn view_at(system: u32, frame: &[u8], channel: u32, sequence: u32, place: Pl
         return layout::no_part(3);
     }
     let at = block_start(y, channel, sequence, place);
-    let fault = faults::fault_at(&frame[at..at + BLOCK], channel, sequence, place);
+    let said = faults::fault_at(&frame[at..at + BLOCK], channel, sequence, place);
+    let fault = layout::number(said);
     if fault != 0 {
         return layout::no_part(fault);
     }

@@ -1,12 +1,9 @@
 use mathlib.Core.Path.{◌≡◌}
 use mathlib.Core.List.{[]}
-use Prim.Native.Nat.{◌-◌, ◌*◌, ◌≤◌}
+use Prim.Native.Nat.{◌≤◌}
 use Rattle.base.specs.Run.{run}
 use Rattle.first_fault.specs.Asked.{stream_faults}
 use Rattle.first_fault.proofs.first_in.Given as goal
 
 abbrev pub invariant-loop-j : goal.invariant-loop-j
-invariant-loop-j l = (run (stream_faults l.frame l.n) l.j ≡ []) × (l.j ≤ l.n * 4) × (l.n ≤ 12)
-
-abbrev pub decreases-loop-j : goal.decreases-loop-j
-decreases-loop-j l = l.n * 4 - l.j
+invariant-loop-j l = (run (stream_faults l.frame l.n) l.j ≡ []) × (l.n ≤ 12)

@@ -11,8 +11,8 @@ overflow_add-printed c = omega (arith, bits_below c.requires.block_asked)
 pub returns-then-judged-printed : goal.returns-then-judged-printed
 returns-then-judged-printed c = search (bits_clean, rules)
 
-pub returns-then-fault-eq0 : goal.returns-then-fault-eq0
-returns-then-fault-eq0 c = search (fault_clean, rules)
+pub returns-in_default : goal.returns-in_default
+returns-in_default c = search (fault_clean, rules)
 
 pub returns : goal.returns
 returns c = search (fault_noted, rules)

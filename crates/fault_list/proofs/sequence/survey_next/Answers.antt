@@ -12,9 +12,6 @@ returns-then-part-ne-SEQUENCE c = search (next_wrong_length, rules)
 pub returns-then-t-ge8000 : goal.returns-then-t-ge8000
 returns-then-t-ge8000 c = search (next_full, rules)
 
-pub clean_part-requires : goal.clean_part-requires
-clean_part-requires c = search (next_asked, rules)
-
 pub returns-then-clean_part : goal.returns-then-clean_part
 returns-then-clean_part c = search (next_clean, rules)
 

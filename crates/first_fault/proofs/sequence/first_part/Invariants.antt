@@ -1,12 +1,8 @@
 use mathlib.Core.Path.{◌≡◌}
 use mathlib.Core.List.{[]}
-use Prim.Native.Nat.{◌-◌, ◌≤◌}
 use Rattle.base.specs.Run.{run}
 use Rattle.rules_surveys.specs.FaultLists.{place_faults}
 use Rattle.first_fault.proofs.sequence.first_part.Given as goal
 
 abbrev pub invariant-loop-p : goal.invariant-loop-p
-invariant-loop-p l = (run (place_faults l.part l.h l.q) l.p ≡ []) × (l.p ≤ 150)
-
-abbrev pub decreases-loop-p : goal.decreases-loop-p
-decreases-loop-p l = 150 - l.p
+invariant-loop-p l = run (place_faults l.part l.h l.q) l.p ≡ []

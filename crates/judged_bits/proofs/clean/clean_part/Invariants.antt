@@ -1,7 +1,7 @@
 use Rattle.base.specs.Run.{run}
 use Rattle.rules_surveys.specs.FaultLists.{place_faults}
 use Rattle.judged_bits.specs.Clean.{Clean}
-use Rattle.first_fault.proofs.sequence.clean_part.Given as goal
+use Rattle.judged_bits.proofs.clean.clean_part.Given as goal
 
 abbrev pub invariant-loop-p : goal.invariant-loop-p
-invariant-loop-p l = Clean l.good (run (place_faults l.part l.h l.q) l.p)
+invariant-loop-p g l = Clean l.good (run (place_faults l.part l.h l.q) l.p)

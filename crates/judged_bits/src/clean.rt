@@ -1,10 +1,9 @@
 // Whether a sequence has no fault.
 ghost use Rattle.std.specs.Prelude.{◌≡◌};
 ghost use Rattle.rules_surveys.specs.FaultLists.{sequence_faults};
-ghost use Rattle.judged_bits.specs.Clean.{Clean, PartAsked};
-ghost use Rattle.fault_list.specs.Asked.{is_named};
+ghost use Rattle.judged_bits.specs.Clean.{is_named, Clean};
 
-use layout::{BLOCK, PLACES};
+use layout::{BLOCK, CHANNELS, PLACES, SEQUENCE};
 use paper::IdAnswer;
 
 // Whether an ID names a block at all.
@@ -14,21 +13,23 @@ fn is_named(id: IdAnswer) -> bool
     matches!(id, IdAnswer::Named(_, _))
 }
 
-// Whether every block is named and the judged bits of its ID are its place's. No early return, and the bits are asked before the
-// ID, so that a block costs few instructions.
-pub(crate) fn clean_part(part: &[u8], h: u32, q: u32) -> bool
-    requires { PartAsked part.now h q }
+// Whether the judged bits of every block's ID are its place's and, where ASK, the ID reader names a block too. No early return in
+// the loop, and the bits are asked before the ID, so that a block costs few instructions.
+pub fn clean_part<const ASK: bool>(part: &[u8], h: u32, q: u32) -> bool
     ensures { Clean result (sequence_faults part.now h q) }
 {
+    if part.len() != SEQUENCE || CHANNELS <= h || 16 <= q {
+        return false;
+    }
     let table = layout::printed_places();
-    let key = judged_bits::key(h, q);
+    let key = crate::key(h, q);
     let mut good = true;
     for p in 0..PLACES {
         let i = p as usize;
         let at = i * BLOCK;
         let block = &part[at..at + BLOCK];
-        let bits = judged_bits::judged(block);
-        let named = is_named(layout::read_block(block));
+        let bits = crate::judged(block);
+        let named = !ASK || is_named(layout::read_block(block));
         good = good & (named & (bits == table[i] + key));
     }
     good
