@@ -5,8 +5,8 @@ use Prim.Native.Nat.{ℕ, ◌+◌, ◌≤◌, ◌<◌}
 use native.Mathlib.Nat.{zero-add}
 use native.Mathlib.Numerals.{add-one}
 use native.Mathlib.Omega.{arith}
-use lib.ListN.{length, take, drop, get_or, set, length-append, length-drop, take-append-drop}
-use lib.Seq.{paste, paste-suc, take-suc, take_all, take_at, drop-append-add, drop-drop, length-take-le, set_split}
+use lib.ListN.{length, take, drop, get_or, length-append, length-drop, take-append-drop}
+use lib.Seq.{take-suc, take_at, drop-append-add, drop-drop, length-take-le}
 use borrow.Author.Tests.{le-leb, lt-leb}
 use Rattle.base.proofs.Picks.{pick_true, pick_false}
 use Rattle.io.specs.Digits.{last_digits, IsDigitCount}
@@ -40,22 +40,6 @@ put_both {a} {b} {at} {r} {s} {out} {out'} {out''} p q =
       within = omega (arith, q.within, p.ends, length-append a b, size);
     }
 
--- ---- put_byte
-
-pub byte_put : (byte at : ℕ) (out : List ℕ) → at < length out → Put (byte ∷ []) at out (set out at byte) (at + 1)
-byte_put byte at out h = record { left = set_split out at byte h ∙ rw (← add-one at) refl; ends = refl; within = omega arith }
-
--- ---- put_bytes
-
-module _ (src out₀ out : List ℕ) (at i : ℕ) (room : at + length src ≤ length out₀) (e : out ≡ paste out₀ at src i) where
-  pub bytes_turn : i < length src → set out (at + i) (get_or src i 0) ≡ paste out₀ at src (i + 1)
-  bytes_turn l = let h : at + i < length out₀ = omega arith in rw (e, add-one) (paste-suc out₀ at src i 0 h l)
-
-  pub bytes_done : i ≤ length src → length src ≤ i → Put src at out₀ out (at + i)
-  bytes_done l g =
-      let s : i ≡ length src = omega arith in
-      record { left = e ∙ rw (s, take_all (length src) src (omega arith)) (append_assoc (take at out₀) src (drop (at + length src) out₀)); ends = omega (arith, s); within = room }
-
 -- ---- put_number
 
 -- k digits were made in digits, and lent on
@@ -68,11 +52,6 @@ module _ (x k : ℕ) (digits' : List ℕ) (l : x < 4294967296) (c : IsPrefixLen 
 
   pub number_put : (out out' : List ℕ) (at r : ℕ) → Put (take k digits') at out out' r → PutField (decimal x) 10 at out out' r
   number_put out out' at r p = record { put = rw number_text at p; small = omega (arith, p.ends, c.1, decimal_few k x l f) }
-
--- ---- put_field
-
-pub field_put : (x at next r : ℕ) (out out' out'' : List ℕ) → Put (9 ∷ []) at out out' next → PutField (decimal x) 10 next out' out'' r → PutField (9 ∷ decimal x) 11 at out out'' r
-field_put x at next r out out' out'' p q = record { put = put_both p q.put; small = omega (arith, p.ends, q.small) }
 
 -- ---- put_fields
 
@@ -94,15 +73,9 @@ module _ (xs out₀ : List ℕ) (at : ℕ) (a : FieldsAsked xs out₀ at) where
   fields_start = record { put = put_none at out₀ (omega (arith, a.room)); size = refl; small = omega arith; turns = omega arith }
 
   module _ (out : List ℕ) (end i : ℕ) (g : Fielding xs at out₀ out end i) where
-    pub fields_asks : i < length xs → end + 11 ≤ length out
-    fields_asks l = omega (arith, g.small, g.size, a.few, a.room)
-
     pub fields_turn : i < length xs → (out' : List ℕ) (r : ℕ) → PutField (9 ∷ decimal (get_or xs i 0)) 11 end out out' r → length out' ≡ length out → Fielding xs at out₀ out' r (i + 1)
     fields_turn l out' r p es =
         record { put = rw (fields_more xs i l) (put_both g.put p.put); size = es ∙ g.size; small = omega (arith, p.small, g.small); turns = omega arith }
-
-    pub fields_done : length xs ≤ i → PutField (fields_of xs) 55 at out₀ out end
-    fields_done l = record { put = rw (take_all i xs l) at g.put; small = omega (arith, g.small, g.turns, a.few) }
 
 -- ---- line
 

@@ -18,12 +18,9 @@ fn put_bytes(src: &[u8], out: &mut [u8], at: usize) -> usize
     requires { at + length src.now ≤ length out.old }
     ensures { Put src.now at out.old out.new result }
 {
-    let mut i = 0;
-    while i < src.len() {
-        out[at + i] = src[i];
-        i += 1;
-    }
-    at + i
+    let end = at + src.len();
+    out[at..end].copy_from_slice(src);
+    end
 }
 
 // A number in decimal.
@@ -50,10 +47,8 @@ fn put_fields(fields: &[u32], out: &mut [u8], at: usize) -> usize
     ensures { PutField (fields_of fields.now) 55 at out.old out.new result }
 {
     let mut end = at;
-    let mut i: usize = 0;
-    while i < fields.len() {
-        end = put_field(fields[i], out, end);
-        i += 1;
+    for x in fields {
+        end = put_field(*x, out, end);
     }
     end
 }
