@@ -6,14 +6,14 @@ use mathlib.Core.List.{List, [], ◌∷◌, ◌++◌, append-nil}
 use Prim.Native.Nat.{ℕ, ◌+◌, ◌-◌, ◌*◌, ◌≤◌}
 use native.Mathlib.Omega.{arith}
 use lib.IntN.{ℤ}
-use lib.ListN.{length, take, drop, replicate, length-append}
+use lib.ListN.{length, take, drop, set, replicate, length-append}
 use lib.Seq.{length-take-le, drop_at, drop-drop}
 use borrow.Rule.Slice.PartMut.{put_mid, post_of}
 use Rattle.base.specs.Pick.{pick}
 use Rattle.base.specs.Run.{run}
 use Rattle.base.proofs.Runs.{tab_part}
 use Rattle.base.proofs.Filling.{Filled, filled_next, filled_end}
-use Rattle.base.proofs.Parts.{length_part, range_part, none_left}
+use Rattle.base.proofs.Parts.{length_part, range_part, none_left, all_set}
 use Rattle.paper.specs.declared.System.{System}
 use Rattle.paper.specs.declared.BlockId.{BlockId}
 use Rattle.paper.specs.declared.Pack.{Pack}
@@ -32,6 +32,11 @@ use Rattle.rules_packs.proofs.Subcode.{ssyb_length}
 use Rattle.sample_words.specs.Words.{words_put, words_fit}
 use Rattle.sample_words.proofs.Words.{put_fits, put_all}
 use Rattle.blocks.specs.Asked.{AudioAsked, VideoAsked}
+
+-- ---- the first bytes of a list, stored one after the other
+
+pub five_set : (xs : List ℕ) (a b c d e : ℕ) → length xs ≡ 5 → set (set (set (set (set xs 0 a) 1 b) 2 c) 3 d) 4 e ≡ a ∷ b ∷ c ∷ d ∷ e ∷ []
+five_set xs a b c d e = all_set xs (a ∷ b ∷ c ∷ d ∷ e ∷ [])
 
 -- ---- the header
 
