@@ -65,13 +65,7 @@ module _ (s : Survey) (list out₀ : List ℕ) where
         let e : text_in s list (length out₀) ≡ run (line_at s list) i = pick_true _ _ (le-leb 4160 (length out₀) room) ∙ ap (run (line_at s list)) (sym i65) in
         record { left = rw e g.left; count = rw e g.ends }
 
-    pub text_within : at ≤ length out
-    text_within = omega (arith, g.small, g.size, g.turns)
-
     module _ (l : i < 65) (ys : List ℕ) (n : ℕ) (p : Printed (line_at s list i) (take (length out - at) (drop at out)) ys n) where
-      pub text_fits : at + n ≤ length out
-      text_fits = omega (arith, g.small, g.size, p.small)
-
       pub text_turn : length (take at out ++ (ys ++ drop (length out - at) (drop at out))) ≡ length out
           → Texting s list out₀ (take at out ++ (ys ++ drop (length out - at) (drop at out))) (at + n) (i + 1)
       text_turn es =

@@ -64,10 +64,8 @@ pub fn text(s: Survey, list: &[u32], out: &mut [u8]) -> usize
         return 0;
     }
     let mut at: usize = 0;
-    let mut i: u32 = 0;
-    while i < LINES {
+    for i in 0..LINES {
         at += line(s, list, i, &mut out[at..]);
-        i += 1;
     }
     at
 }

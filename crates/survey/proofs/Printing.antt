@@ -3,7 +3,7 @@ use mathlib.Core.Path.{◌≡◌, refl, sym, ◌∙◌}
 use mathlib.Core.List.{List, [], ◌∷◌}
 use Prim.Native.Nat.{ℕ, ◌*◌, ◌/◌, ◌<◌}
 use native.Mathlib.Omega.{arith}
-use lib.ListN.{length}
+use lib.ListN.{length, drop, length-append}
 use borrow.Author.Tests.{le-leb}
 use Rattle.base.proofs.Picks.{pick_true, pick_false}
 use Rattle.paper.specs.declared.System.{System}
@@ -54,4 +54,12 @@ text_said r list out out' s n a t =
     }
 
 pub input_surveyed : (buf list text buf' list' text' : List ℕ) (r : Reading) (n : ℕ) → Rooms buf list text → Ended list buf' list' r → Said r list' text text' n → Surveyed buf' text text' n
-input_surveyed buf list text buf' list' text' r n a d t = record { before = d.before; last = r.last; says = λ y rate. t.says list buf' a.records a.lines d y rate; ended = d.last }
+input_surveyed buf list text buf' list' text' r n a d t =
+    let lines = text_in (answer_of r (length list')) list' (length text) in
+    record {
+      before = d.before;
+      last = r.last;
+      says = λ y rate. t.says list buf' a.records a.lines d y rate;
+      ended = d.last;
+      within = rw t.texted.left (omega (arith, t.texted.count, length-append lines (drop (length lines) text)));
+    }

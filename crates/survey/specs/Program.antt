@@ -1,5 +1,5 @@
 -- What the program's state says after refills.
-use Rattle.std.specs.Prelude.{◌≡◌, ◌⊎◌, List, ◌++◌, ℕ, ◌+◌, ◌*◌, ◌≤◌, ◌<◌, length, take, drop}
+use Rattle.std.specs.Prelude.{◌≡◌, ◌⊎◌, List, ◌++◌, ℕ, ◌*◌, ◌≤◌, ◌<◌, length, take, drop}
 use Rattle.paper.specs.declared.System.{System}
 use Rattle.rules_format.specs.Systems.{rate_of, number_of_system}
 use Rattle.rules_surveys.specs.FaultLists.{frame_faults}
@@ -14,11 +14,11 @@ use Rattle.stream.specs.Input.{dsf_in, Read}
 abbrev pub bytes_of : List ℕ → List ℕ → Reading → List ℕ
 bytes_of before buf r = before ++ take r.last buf
 
--- the loop with `left` refills to go: r and list are what whole sequences of bytes say
-pub record Going (list₀ buf list : List ℕ) (r : Reading) (left : ℕ) : Type 0 where
+-- the loop after so many refills: r and list are what whole sequences of bytes say
+pub record Going (list₀ buf list : List ℕ) (r : Reading) (done : ℕ) : Type 0 where
   pub before : List ℕ
   pub read : Read list₀ (bytes_of before buf r) list r
-  pub many : length (bytes_of before buf r) + 12000 * left ≡ 12000 * 18446744073709551615
+  pub many : length (bytes_of before buf r) ≡ 12000 * done
   pub whole : length buf ≡ 12000
   pub size : length list ≡ length list₀
 
@@ -59,3 +59,4 @@ pub record Surveyed (buf text text' : List ℕ) (n : ℕ) : Type 0 where
   pub last : ℕ
   pub says : (y : System) → rate_of y ≡ dsf_in (before ++ take last buf) → Starts (input_text y (before ++ take last buf)) text text' n
   pub ended : (last < 12000) ⊎ (12000 * 18446744073709551615 ≤ length (before ++ take last buf))
+  pub within : n ≤ length text'

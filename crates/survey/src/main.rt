@@ -14,14 +14,12 @@ fn read_all(buf: &mut [u8], list: &mut [u32]) -> Reading
     ensures { Ended list.old buf.new list.new result }
 {
     let mut r = stream::start();
-    let mut left: u64 = 18446744073709551615;
-    while 0 < left {
+    for _ in 0..u64::MAX {
         let got = io::read_full(0, buf);
         r = stream::refill(r, got, buf, list);
         if got != SEQUENCE {
             return r;
         }
-        left -= 1;
     }
     r
 }
@@ -43,17 +41,11 @@ fn survey(buf: &mut [u8], list: &mut [u32], text: &mut [u8]) -> usize
     text_of(r, list, text)
 }
 
-fn print(text: &[u8], n: usize) {
-    if n <= text.len() {
-        io::write_all(1, &text[..n]);
-    }
-}
-
 // The list has room for 64 records, the text for their lines.
 fn main() {
     let mut buf = [0u8; SEQUENCE];
     let mut list = [0u32; 64 * RECORD];
     let mut text = [0u8; 4160];
     let n = survey(&mut buf, &mut list, &mut text);
-    print(&text, n);
+    io::write_all(1, &text[..n]);
 }

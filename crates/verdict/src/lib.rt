@@ -18,9 +18,10 @@ pub fn length_of(y: System, count: u32) -> FrameLength
     ensures { Judged y count result }
 {
     if (count as usize) == layout::frame_bytes(y) {
-        return FrameLength::Right;
+        FrameLength::Right
+    } else {
+        FrameLength::Wrong
     }
-    FrameLength::Wrong
 }
 
 // The answer to an input, of a list of so many numbers.
