@@ -6,7 +6,7 @@ ghost use Rattle.base.specs.Calls.{first_of};
 ghost use Rattle.rules_reads.specs.Time.{time_rows, time_number};
 
 use judges::Test;
-use paper::System;
+use paper::{SubcodeData, System};
 
 // What a frame is refused for beyond the frame check: 23, 26, 27.
 fn clock_number(y: System, frame: &[u8]) -> u32
@@ -20,7 +20,7 @@ fn clock_number(y: System, frame: &[u8]) -> u32
     if !(packs::time_ok(y, time) & packs::group_ok(group)) {
         return 26;
     }
-    if !judges::every_sequence(y, frame, Test::Subcode(time, group)) {
+    if !judges::every_sequence(y, frame, Test::Subcode(SubcodeData { time, group })) {
         return 27;
     }
     0
