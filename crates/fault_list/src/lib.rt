@@ -4,5 +4,5 @@
 mod list;
 mod sequence;
 
-pub use list::{RECORD, answered, refused};
+pub use list::{FaultList, RECORD, answered, refused};
 pub use sequence::survey_next;

@@ -4,6 +4,7 @@
 ghost use Rattle.std.specs.Prelude.{◌≡◌, ◌+◌, min, length};
 ghost use Rattle.stream.specs.Input.{counted_to, of_rate, nothing, system_after, Next, Refilled};
 
+use fault_list::FaultList;
 use layout::SEQUENCE;
 use paper::System;
 
@@ -30,12 +31,6 @@ pub fn start() -> Reading
         total: 0,
         last: 0,
     }
-}
-
-fn least(a: usize, b: usize) -> usize
-    ensures { result ≡ min a b }
-{
-    if a < b { a } else { b }
 }
 
 // The count after `more` bytes.
@@ -81,11 +76,15 @@ fn next(r: Reading, part: &[u8], list: &mut [u32]) -> Reading
     let k = r.count / (SEQUENCE as u32);
     let h = k / n;
     let q = k % n;
-    let total = fault_list::survey_next(y, h, q, part, list, r.total);
+    let mut found = FaultList {
+        numbers: list,
+        total: r.total,
+    };
+    fault_list::survey_next(y, h, q, part, &mut found);
     Reading {
         count: counted(r.count, part.len()),
         system: y,
-        total: total,
+        total: found.total,
         last: part.len(),
     }
 }
@@ -94,6 +93,5 @@ fn next(r: Reading, part: &[u8], list: &mut [u32]) -> Reading
 pub fn refill(r: Reading, got: usize, buf: &[u8], list: &mut [u32]) -> Reading
     ensures { Refilled r got buf.now list.old result list.new }
 {
-    let end = least(got, buf.len());
-    next(r, &buf[..end], list)
+    next(r, &buf[..got.min(buf.len())], list)
 }
