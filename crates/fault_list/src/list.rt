@@ -55,10 +55,7 @@ impl<'a> FaultList<'a> {
 fn kept(total: u32, size: usize) -> u32
     ensures { result ≡ min (size / width) total }
 {
-    if size / RECORD < total as usize {
-        return (size / RECORD) as u32;
-    }
-    total
+    (size / RECORD).min(total as usize) as u32
 }
 
 // The answer of a survey that went through and found so many faults, of a list of so many numbers.

@@ -19,7 +19,7 @@ pub struct Reading {
 }
 
 // More bytes than any frame has: an endless input is counted no further.
-const COUNTED: u32 = 1000000;
+const COUNTED: usize = 1000000;
 
 // Before the first refill.
 pub fn start() -> Reading
@@ -37,13 +37,7 @@ pub fn start() -> Reading
 fn counted(count: u32, more: usize) -> u32
     ensures { result ≡ min (count + more) counted_to }
 {
-    if COUNTED <= count {
-        return COUNTED;
-    }
-    if ((COUNTED - count) as usize) < more {
-        return COUNTED;
-    }
-    count + (more as u32)
+    (count as usize).saturating_add(more).min(COUNTED) as u32
 }
 
 // The 1080 system of a rate. Faults depend on the sequences alone, which are the same for every system of a rate.
