@@ -5,4 +5,3 @@ mod list;
 mod sequence;
 
 pub use list::{FaultList, RECORD, answered, refused};
-pub use sequence::survey_next;

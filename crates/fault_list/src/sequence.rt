@@ -53,22 +53,24 @@ fn survey_part(part: &[u8], h: u32, q: u32, list: &mut FaultList)
     }
 }
 
-// The survey of one sequence: block by block only where it is not clean. Nothing is surveyed where the sequence is none of the
-// system's, or after 8,000 faults.
-pub fn survey_next(y: System, h: u32, q: u32, part: &[u8], list: &mut FaultList)
-    ensures { NotedIn list.old (next_faults y h q part.now list.old.total) list.new }
-{
-    if faults::outside(y, h, q) {
-        return;
+impl FaultList<'_> {
+    // The survey of one sequence more: block by block only where it is not clean. Nothing is surveyed where the sequence is none
+    // of the system's, or after 8,000 faults.
+    pub fn survey_next(&mut self, y: System, h: u32, q: u32, part: &[u8])
+        ensures { NotedIn self.old (next_faults y h q part.now self.old.total) self.new }
+    {
+        if faults::outside(y, h, q) {
+            return;
+        }
+        if part.len() != SEQUENCE {
+            return;
+        }
+        if 8000 <= self.total {
+            return;
+        }
+        if judged_bits::clean_part::<true>(part, h, q) {
+            return;
+        }
+        survey_part(part, h, q, self);
     }
-    if part.len() != SEQUENCE {
-        return;
-    }
-    if 8000 <= list.total {
-        return;
-    }
-    if judged_bits::clean_part::<true>(part, h, q) {
-        return;
-    }
-    survey_part(part, h, q, list);
 }

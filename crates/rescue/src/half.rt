@@ -46,7 +46,7 @@ fn survey_rank(frame: &[u8], y: System, i: u32, r: u32, list: &mut FaultList)
     ensures { NotedIn list.old (rank_faults y frame.now i r) list.new }
 {
     let part = rank_part(frame, y, i, r);
-    fault_list::survey_next(y, i / 2, rank_sequence(y, i, r), part, list);
+    list.survey_next(y, i / 2, rank_sequence(y, i, r), part);
 }
 
 // The samples of an audio channel.

@@ -74,7 +74,7 @@ fn next(r: Reading, part: &[u8], list: &mut [u32]) -> Reading
         numbers: list,
         total: r.total,
     };
-    fault_list::survey_next(y, h, q, part, &mut found);
+    found.survey_next(y, h, q, part);
     Reading {
         count: counted(r.count, part.len()),
         system: y,

@@ -25,7 +25,7 @@ fn survey_channel(frame: &[u8], y: System, h: u32, list: &mut FaultList)
     ensures { NotedIn list.old (channel_faults y frame.now h) list.new }
 {
     for q in 0..layout::sequences(y) {
-        fault_list::survey_next(y, h, q, part_of(frame, y, h, q), list);
+        list.survey_next(y, h, q, part_of(frame, y, h, q));
     }
 }
 

@@ -30,6 +30,6 @@ pub fn survey_sequence(
         numbers: list,
         total: 0,
     };
-    fault_list::survey_next(y, channel, sequence, part, &mut found);
+    found.survey_next(y, channel, sequence, part);
     found.answered()
 }
