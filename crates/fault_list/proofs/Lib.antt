@@ -1,2 +1,3 @@
+pub mod Listing
 pub mod Noting
 pub mod Next

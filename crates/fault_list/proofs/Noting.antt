@@ -27,11 +27,14 @@ use Rattle.rules_surveys.specs.Records.{numbers, width, room}
 use Rattle.rules_surveys.specs.Noting.{Noted}
 use Rattle.rules_format.proofs.Places.{entry_printed}
 use Rattle.rules_surveys.proofs.FaultLists.{places_le}
-use Rattle.rules_surveys.proofs.Records.{numbers_length, noted_none, noted_one, noted_full, noted_turn}
+use Rattle.rules_surveys.proofs.Records.{numbers_length, noted_none, noted_one, noted_full}
 use Rattle.layout.proofs.Saying.{never_zero}
 use Rattle.judged_bits.specs.Asked.{JudgedBlock}
 use Rattle.judged_bits.specs.Clean.{BlockAsked}
 use Rattle.judged_bits.proofs.Clear.{clean_block}
+use Rattle.fault_list.specs.declared.list.FaultList.{FaultList}
+use Rattle.fault_list.specs.Listed.{NotedIn}
+use Rattle.fault_list.proofs.Listing.{in_turn}
 
 -- ---- put_record
 
@@ -89,16 +92,16 @@ module _ (block : List ℕ) (h q : ℕ) (p : Place) (e k t : ℕ) (list : List �
 
 -- ---- survey_part
 
-module _ (part : List ℕ) (h q t p total : ℕ) (list list' : List ℕ) (n : Noted list t (run (place_faults part h q) p) list' total) where
-  pub block_few : t < 8000 → p < 150 → total < 10000
-  block_few few l = omega (arith, n.total, places_le part h q p)
+module _ (part : List ℕ) (h q p : ℕ) (list list' : FaultList) (n : NotedIn list (run (place_faults part h q) p) list') where
+  pub block_few : list.total < 8000 → p < 150 → list'.total < 10000
+  block_few few l = omega (arith, n.noted.total, places_le part h q p)
 
-  pub place_turn : (list'' : List ℕ) (r : ℕ) → Noted list' total (block_faults (take (p * 80 + 80 - p * 80) (drop (p * 80) part)) h q p) list'' r
-      → Noted list t (run (place_faults part h q) (p + 1)) list'' r
+  pub place_turn : (list'' : FaultList) → NotedIn list' (block_faults (take (p * 80 + 80 - p * 80) (drop (p * 80) part)) h q p) list''
+      → NotedIn list (run (place_faults part h q) (p + 1)) list''
   unfolding block_in
-  place_turn list'' r m = noted_turn (place_faults part h q) p n (rw (range_part (p * 80) 80 part) at m)
+  place_turn list'' m = in_turn (place_faults part h q) p n (rw (range_part (p * 80) 80 part) at m)
 
-pub places_done : (part : List ℕ) (h q t p r : ℕ) (list list' : List ℕ) → p ≤ 150 → 150 ≤ p → Noted list t (run (place_faults part h q) p) list' r
-    → Noted list t (sequence_faults part h q) list' r
+pub places_done : (part : List ℕ) (h q p : ℕ) (list list' : FaultList) → p ≤ 150 → 150 ≤ p → NotedIn list (run (place_faults part h q) p) list'
+    → NotedIn list (sequence_faults part h q) list'
 unfolding sequence_faults
-places_done part h q t p r list list' a b n = let e : p ≡ 150 = omega arith in rw e at n
+places_done part h q p list list' a b n = let e : p ≡ 150 = omega arith in rw e at n

@@ -4,5 +4,4 @@
 mod list;
 mod sequence;
 
-pub use list::{RECORD, answered, refused};
-pub use sequence::survey_next;
+pub use list::{FaultList, RECORD, answered, refused};

@@ -1,9 +1,9 @@
 // A lent list of survey records, and what a survey answers of it.
 ghost use Rattle.std.specs.Prelude.{◌≡◌, [], ◌∷◌, ◌/◌, ◌<◌, min, length};
 ghost use Rattle.rules_surveys.specs.Records.{numbers, width};
-ghost use Rattle.rules_surveys.specs.Noting.{Noted};
 ghost use Rattle.rules_surveys.specs.Survey.{refusal};
 ghost use Rattle.fault_list.specs.Asked.{tallied};
+ghost use Rattle.fault_list.specs.Listed.{NotedIn};
 
 use paper::{Fault, Survey};
 
@@ -21,31 +21,44 @@ fn put_record(part: &mut [u32], f: Fault)
     part[3] = f.fault;
 }
 
-// One record more: it is stored where there is room.
-pub(crate) fn note(list: &mut [u32], t: u32, f: Fault) -> u32
-    requires { t < 10000 }
-    ensures { Noted list.old t (f ∷ []) list.new result }
-{
-    let at = t as usize;
-    if at < list.len() / RECORD {
+// A lent list of survey records, and how many faults were found so far: those past its room are counted and not kept.
+#[derive(Drop)]
+pub struct FaultList<'a> {
+    pub numbers: &'a mut [u32],
+    pub total: u32,
+}
+
+impl<'a> FaultList<'a> {
+    // One record more: it is stored where there is room.
+    pub(crate) fn note(&mut self, f: Fault)
+        requires { self.old.total < 10000 }
+        ensures { NotedIn self.old (f ∷ []) self.new }
+    {
+        let at = self.total as usize;
+        self.total += 1;
+        if self.numbers.len() / RECORD <= at {
+            return;
+        }
         let k = RECORD * at;
-        put_record(&mut list[k..k + RECORD], f);
-        return t + 1;
+        put_record(&mut self.numbers[k..k + RECORD], f);
     }
-    t + 1
+
+    // The answer of a survey that went through.
+    pub fn answered(&self) -> Survey
+        ensures { result ≡ tallied self.now.total (length self.now.numbers.now) }
+    {
+        answered(self.total, self.numbers.len())
+    }
 }
 
 // How many of the records a list of so many numbers keeps.
 fn kept(total: u32, size: usize) -> u32
     ensures { result ≡ min (size / width) total }
 {
-    if size / RECORD < total as usize {
-        return (size / RECORD) as u32;
-    }
-    total
+    (size / RECORD).min(total as usize) as u32
 }
 
-// The answer of a survey that went through, of a list of so many numbers.
+// The answer of a survey that went through and found so many faults, of a list of so many numbers.
 pub fn answered(total: u32, size: usize) -> Survey
     ensures { result ≡ tallied total size }
 {

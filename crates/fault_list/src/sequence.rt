@@ -1,11 +1,11 @@
 // The survey of one sequence, block by block.
 ghost use Rattle.std.specs.Prelude.{◌<◌};
 ghost use Rattle.rules_surveys.specs.FaultLists.{block_faults, sequence_faults};
-ghost use Rattle.rules_surveys.specs.Noting.{Noted};
 ghost use Rattle.judged_bits.specs.Clean.{BlockAsked, PartAsked};
 ghost use Rattle.fault_list.specs.Asked.{next_faults};
+ghost use Rattle.fault_list.specs.Listed.{NotedIn};
 
-use crate::list;
+use crate::list::FaultList;
 use layout::{BLOCK, PLACES, SEQUENCE};
 use paper::{Fault, Place, System};
 
@@ -17,74 +17,60 @@ fn survey_block(
     p: Place,
     printed: u32,
     key: u32,
-    list: &mut [u32],
-    t: u32,
-) -> u32
+    list: &mut FaultList,
+)
     requires block_asked { BlockAsked block.now h q p.0 printed key }
-    requires t_bound { t < 10000 }
-    ensures { Noted list.old t (block_faults block.now h q p.0) list.new result }
+    requires t_bound { list.old.total < 10000 }
+    ensures { NotedIn list.old (block_faults block.now h q p.0) list.new }
 {
     let id = layout::read_block(block);
     if judged_bits::judged(block) == printed + key {
-        return t;
+        return;
     }
     let Err(cause) = faults::fault_of(id, h, q, layout::entry_of(printed)) else {
-        return t;
+        return;
     };
-    list::note(
-        list,
-        t,
-        Fault {
-            channel: h,
-            sequence: q,
-            place: p,
-            fault: layout::number_of(cause),
-        },
-    )
+    list.note(Fault {
+        channel: h,
+        sequence: q,
+        place: p,
+        fault: layout::number_of(cause),
+    });
 }
 
-// The survey of one sequence's 12,000 bytes, where t faults came before.
-pub(crate) fn survey_part(part: &[u8], h: u32, q: u32, list: &mut [u32], t: u32) -> u32
+// The survey of one sequence's 12,000 bytes.
+fn survey_part(part: &[u8], h: u32, q: u32, list: &mut FaultList)
     requires part_asked { PartAsked part.now h q }
-    requires t_bound { t < 8000 }
-    ensures { Noted list.old t (sequence_faults part.now h q) list.new result }
+    requires t_bound { list.old.total < 8000 }
+    ensures { NotedIn list.old (sequence_faults part.now h q) list.new }
 {
     let table = layout::printed_places();
     let key = judged_bits::key(h, q);
-    let mut total = t;
     for p in 0..PLACES {
         let i = p as usize;
         let at = i * BLOCK;
-        total = survey_block(
-            &part[at..at + BLOCK],
-            h,
-            q,
-            Place(p),
-            table[i],
-            key,
-            list,
-            total,
-        );
+        survey_block(&part[at..at + BLOCK], h, q, Place(p), table[i], key, list);
     }
-    total
 }
 
-// The survey of one sequence where t faults came before: block by block only where it is not clean. Nothing is surveyed where
-// the sequence is none of the system's, or after 8,000 faults.
-pub fn survey_next(y: System, h: u32, q: u32, part: &[u8], list: &mut [u32], t: u32) -> u32
-    ensures { Noted list.old t (next_faults y h q part.now t) list.new result }
-{
-    if faults::outside(y, h, q) {
-        return t;
+impl FaultList<'_> {
+    // The survey of one sequence more: block by block only where it is not clean. Nothing is surveyed where the sequence is none
+    // of the system's, or after 8,000 faults.
+    pub fn survey_next(&mut self, y: System, h: u32, q: u32, part: &[u8])
+        ensures { NotedIn self.old (next_faults y h q part.now self.old.total) self.new }
+    {
+        if faults::outside(y, h, q) {
+            return;
+        }
+        if part.len() != SEQUENCE {
+            return;
+        }
+        if 8000 <= self.total {
+            return;
+        }
+        if judged_bits::clean_part::<true>(part, h, q) {
+            return;
+        }
+        survey_part(part, h, q, self);
     }
-    if part.len() != SEQUENCE {
-        return t;
-    }
-    if 8000 <= t {
-        return t;
-    }
-    if judged_bits::clean_part::<true>(part, h, q) {
-        return t;
-    }
-    survey_part(part, h, q, list, t)
 }

@@ -18,14 +18,15 @@ use Rattle.rules_format.specs.Systems.{sequences_of, half_of, positions_of}
 use Rattle.rules_format.specs.Blocks.{sequence_at}
 use Rattle.rules_format.specs.Sound.{dif_of, half_at, rank_of, sequence_of, audio_of, sound_place, byte_of, rank_at}
 use Rattle.rules_format.specs.Faults.{names}
-use Rattle.rules_surveys.specs.Noting.{Noted}
 use Rattle.rules_format.specs.Reading.{read_sample, salvaged_sample}
 use Rattle.rules_format.proofs.Systems.{sequences_le, half_cases, half_twice}
 use Rattle.rules_format.proofs.Places.{place_in_below}
 use Rattle.rules_format.proofs.Blocks.{block_in_sequence, sequence_length}
 use Rattle.rules_format.proofs.Sound.{half_le, audio_below, rank_sequence_lem, sequence_below}
 use Rattle.rules_surveys.proofs.Halves.{half_start, rank_le}
+use Rattle.fault_list.specs.declared.list.FaultList.{FaultList}
 use Rattle.fault_list.specs.Asked.{next_faults}
+use Rattle.fault_list.specs.Listed.{NotedIn}
 use Rattle.fault_list.proofs.Next.{next_inside}
 use Rattle.sequence_samples.specs.Taken.{held_word, held_block, held_part, Between, blocks_taken}
 use Rattle.sequence_samples.proofs.Between.{between_none, between_next, between_same, between_all}
@@ -101,10 +102,10 @@ module _ (frame : List ℕ) (y : System) (i r : ℕ) (asked : RankAsked frame y 
         ap (λ (j : ℕ). held_part s (sequence_at y frame (dif_of (i + 1)) (rank_sequence y i j)) (dif_of (i + 1)) (rank_sequence y i j) t) (sym e)
         ∙ held_sample_lem y frame (i + 1) t) p'
 
-    pub rank_noted : (list list' : List ℕ) (t total : ℕ) → t ≤ 7200 → Noted list t (next_faults y (i / 2) q part t) list' total → Noted list t (rank_faults y frame i r) list' total
-    rank_noted list list' t total l n =
+    pub rank_noted : (list list' : FaultList) → list.total ≤ 7200 → NotedIn list (next_faults y (i / 2) q part list.total) list' → NotedIn list (rank_faults y frame i r) list'
+    rank_noted list list' l n =
         let h = dif_of (i + 1) in
-        let inside = next_inside y h (rank_sequence y i r) (sequence_at y frame h (rank_sequence y i r)) t h_below (q_below y i r (half_of y) refl asked.rank) rank_long (omega arith) in
+        let inside = next_inside y h (rank_sequence y i r) (sequence_at y frame h (rank_sequence y i r)) list.total h_below (q_below y i r (half_of y) refl asked.rank) rank_long (omega arith) in
         rw inside at (rw (ep, h_is, eq) at n)
 
 -- ---- take_half and salvage_half
@@ -113,8 +114,8 @@ module _ (frame : List ℕ) (y : System) (i t r m : ℕ) (asked : HalfAsked fram
   pub rank_asked : RankAsked frame y i r
   rank_asked = record { whole = asked.whole; channel = asked.channel; rank = omega (arith, em) }
 
-  pub rank_few : (list list' : List ℕ) (total : ℕ) → Noted list t (run (rank_faults y frame i) r) list' total → total ≤ 7200
-  rank_few list list' total n = omega (arith, n.total, asked.few, rank_le y frame i r, em, half_le (half_of y) (half_cases y))
+  pub rank_few : (list list' : FaultList) → t ≡ list.total → NotedIn list (run (rank_faults y frame i) r) list' → list'.total ≤ 7200
+  rank_few list list' et n = omega (arith, n.noted.total, asked.few, et, rank_le y frame i r, em, half_le (half_of y) (half_cases y))
 
 module _ (s : ℕ) (f : ℕ → ℤ) where
   pub half_none : (l : List ℤ) → Between s 0 (9 * 0) f l l
@@ -133,9 +134,9 @@ module _ (frame : List ℕ) (y : System) (i r m : ℕ) (em : m ≡ half_of y) (l
   pub half_taken : Between (half_of y) 0 (9 * half_of y) (held_sample y frame (i + 1)) before now
   half_taken = rw r_is at p
 
-  pub half_salvaged : (t : ℕ) (list list' : List ℕ) (total : ℕ) → Noted list t (run (rank_faults y frame i) r) list' total → HalfSalvaged y frame i t before now list list' total
+  pub half_salvaged : (list list' : FaultList) → NotedIn list (run (rank_faults y frame i) r) list' → HalfSalvaged y frame i before now list list'
   unfolding half_faults
-  half_salvaged t list list' total n = record { sound = half_taken; noted = rw r_is at n }
+  half_salvaged list list' n = record { sound = half_taken; noted = rw r_is at n }
 
 -- ---- samples_of: b is what `samples_fit` answers
 

@@ -25,10 +25,12 @@ use Rattle.rules_surveys.specs.Noting.{Noted}
 use Rattle.rules_surveys.specs.Survey.{refusal}
 use Rattle.rules_surveys.specs.Salvage.{salvaged_channel, salvaged, salvage_number, salvage_left, Salvaged}
 use Rattle.rules_format.proofs.Systems.{half_cases, positions_le}
-use Rattle.rules_surveys.proofs.Records.{noted_turn}
 use Rattle.rules_surveys.proofs.Halves.{faults_halves, halves_le}
 use Rattle.rules_surveys.proofs.Calls.{survey_done, survey_stopped}
+use Rattle.fault_list.specs.declared.list.FaultList.{FaultList}
 use Rattle.fault_list.specs.Asked.{tallied}
+use Rattle.fault_list.specs.Listed.{NotedIn}
+use Rattle.fault_list.proofs.Listing.{in_turn, in_noted, in_size}
 use Rattle.sequence_samples.proofs.Between.{between_all}
 use Rattle.rescue.specs.Taken.{held_sample, half_samples, half_faults}
 use Rattle.rescue.specs.Asked.{HalfAsked, HalfSalvaged, FrameAsked, FrameSalvaged}
@@ -65,26 +67,26 @@ module _ (y : System) (i n : ℕ) (en : n ≡ positions_of y) (hi : i < 8) where
     pub half_room : length (take (i * n + n - i * n) (drop (i * n) now)) ≤ positions_of y
     half_room = omega (arith, half_long)
 
-    pub half_filled : (ys : List ℤ) (t : ℕ) (list list' : List ℕ) (r : ℕ) → Filled n (half_samples y frame) i before now
-        → HalfSalvaged y frame i t (take (i * n + n - i * n) (drop (i * n) now)) ys list list' r
+    pub half_filled : (ys : List ℤ) (list list' : FaultList) → Filled n (half_samples y frame) i before now
+        → HalfSalvaged y frame i (take (i * n + n - i * n) (drop (i * n) now)) ys list list'
         → Filled n (half_samples y frame) (i + 1) before (take (i * n) now ++ (ys ++ drop (i * n + n - i * n) (drop (i * n) now)))
     unfolding half_samples salvaged_channel
-    half_filled ys t list list' r f p =
+    half_filled ys list list' f p =
         filled_next n _ (channel_wide y frame n en) i before now ys f
         (between_all (half_of y) _ _ ys (half_cases y) p.sound ∙ ap (tab (held_sample y frame (i + 1))) half_long)
 
-  pub half_asked : (frame : List ℕ) (size : ℕ) (list list' : List ℕ) (total : ℕ) → FrameAsked frame y size → Noted list 0 (run (half_faults y frame) i) list' total → HalfAsked frame y i total
+  pub half_asked : (frame : List ℕ) (size : ℕ) (list list' : FaultList) → FrameAsked frame y size → list.total ≡ 0 → NotedIn list (run (half_faults y frame) i) list' → HalfAsked frame y i list'.total
   unfolding half_faults
-  half_asked frame size list list' total asked m = record { whole = asked.whole; channel = hi; few = omega (arith, m.total, halves_le y frame i) }
+  half_asked frame size list list' asked z m = record { whole = asked.whole; channel = hi; few = omega (arith, m.noted.total, z, halves_le y frame i) }
 
-pub half_noted : (y : System) (frame : List ℕ) (i t : ℕ) (part ys : List ℤ) (list list' list'' : List ℕ) (r : ℕ) → Noted list 0 (run (half_faults y frame) i) list' t → HalfSalvaged y frame i t part ys list' list'' r
-    → Noted list 0 (run (half_faults y frame) (i + 1)) list'' r
-half_noted y frame i t part ys list list' list'' r m p = noted_turn (half_faults y frame) i m p.noted
+pub half_noted : (y : System) (frame : List ℕ) (i : ℕ) (part ys : List ℤ) (list list' list'' : FaultList) → NotedIn list (run (half_faults y frame) i) list' → HalfSalvaged y frame i part ys list' list''
+    → NotedIn list (run (half_faults y frame) (i + 1)) list''
+half_noted y frame i part ys list list' list'' m p = in_turn (half_faults y frame) i m p.noted
 
-pub all_salvaged : (y : System) (frame : List ℕ) (n i : ℕ) (before now : List ℤ) (list list' : List ℕ) (r : ℕ) → n ≡ positions_of y → FrameAsked frame y (length before) → i ≤ 8 → 8 ≤ i
-    → Filled n (half_samples y frame) i before now → Noted list 0 (run (half_faults y frame) i) list' r → FrameSalvaged y frame now list list' r
+pub all_salvaged : (y : System) (frame : List ℕ) (n i : ℕ) (before now : List ℤ) (list list' : FaultList) → n ≡ positions_of y → FrameAsked frame y (length before) → i ≤ 8 → 8 ≤ i
+    → Filled n (half_samples y frame) i before now → NotedIn list (run (half_faults y frame) i) list' → FrameSalvaged y frame now list list'
 unfolding salvaged half_samples half_faults
-all_salvaged y frame n i before now list list' r en asked le ge f m =
+all_salvaged y frame n i before now list list' en asked le ge f m =
     let e : i ≡ 8 = omega arith in
     record {
       sound = filled_end n _ i 8 before now f (asked.samples ∙ ap (λ (j : ℕ). 8 * j) (sym en)) le ge;
@@ -132,13 +134,17 @@ module _ (k : ℕ) (s : Option System) (es : s ≡ system_of k) (frame : List �
         pub frame_asked : FrameAsked frame y (length samples)
         frame_asked = record { whole = eqb-true _ _ (not-false _ (rw en at whole)); samples = eqb-true _ _ (not-false _ (rw em at room)) }
 
-        pub salvage_done : (samples' : List ℤ) (list' : List ℕ) (t : ℕ) (r : Survey) → FrameSalvaged y frame samples' list list' t → r ≡ tallied t (length list)
-            → Salvaged k frame samples list r samples' list'
+        pub salvage_done : (samples' : List ℤ) (list' : List ℕ) (old new : FaultList) (r : Survey) → FrameSalvaged y frame samples' old new → old.numbers.now ≡ list → old.total ≡ 0
+            → (length list' ≡ length list) × (old.numbers.ghost_name ≡ new.numbers.ghost_name → list' ≡ new.numbers.now)
+            → r ≡ tallied new.total (length new.numbers.now) → Salvaged k frame samples list r samples' list'
         unfolding salvage_left
-        salvage_done samples' list' t r p er =
+        salvage_done samples' list' old new r p ea et back er' =
+            let t = new.total in
+            let nt : Noted list 0 (frame_faults y frame) list' t = rw et at (in_noted old new list list' p.noted ea back) in
+            let er : r ≡ tallied t (length list) = er' ∙ ap (tallied t) (in_size old new list list' p.noted ea back) in
             let all : frame_faults y frame ≡ faults_in (system_of k) frame = rw known refl in
             let sound : salvaged y frame ≡ in_system samples (λ (x : System). salvaged x frame) (system_of k) = rw known refl in
             record {
-              survey = rw er (survey_done _ _ list list' t _ taken (rw all at p.noted) refl);
+              survey = rw er (survey_done _ _ list list' t _ taken (rw all at nt) refl);
               left = p.sound ∙ sound ∙ sym (pick_true _ _ (eq-eqb _ 0 taken));
             }

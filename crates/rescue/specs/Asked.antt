@@ -3,8 +3,9 @@ use Rattle.std.specs.Prelude.{◌≡◌, List, ℕ, ◌+◌, ◌*◌, ◌≤◌,
 use Rattle.paper.specs.declared.System.{System}
 use Rattle.rules_format.specs.Systems.{sequences_of, half_of, positions_of}
 use Rattle.rules_surveys.specs.FaultLists.{frame_faults}
-use Rattle.rules_surveys.specs.Noting.{Noted}
 use Rattle.rules_surveys.specs.Salvage.{salvaged}
+use Rattle.fault_list.specs.declared.list.FaultList.{FaultList}
+use Rattle.fault_list.specs.Listed.{NotedIn}
 use Rattle.sequence_samples.specs.Taken.{Between}
 use Rattle.rescue.specs.Taken.{held_sample, half_faults}
 
@@ -21,15 +22,15 @@ pub record HalfAsked (frame : List ℕ) (y : System) (i t : ℕ) : Type 0 where
   pub few : t ≤ 6300
 
 -- its sound is taken, and its faults are noted
-pub record HalfSalvaged (y : System) (frame : List ℕ) (i t : ℕ) (samples samples' : List ℤ) (list list' : List ℕ) (r : ℕ) : Type 0 where
+pub record HalfSalvaged (y : System) (frame : List ℕ) (i : ℕ) (samples samples' : List ℤ) (list list' : FaultList) : Type 0 where
   pub sound : Between (half_of y) 0 (9 * half_of y) (held_sample y frame (i + 1)) samples samples'
-  pub noted : Noted list t (half_faults y frame i) list' r
+  pub noted : NotedIn list (half_faults y frame i) list'
 
 pub record FrameAsked (frame : List ℕ) (y : System) (size : ℕ) : Type 0 where
   pub whole : length frame ≡ 48000 * sequences_of y
   pub samples : size ≡ 8 * positions_of y
 
 -- the sound of every audio channel, and the faults of the frame
-pub record FrameSalvaged (y : System) (frame : List ℕ) (samples' : List ℤ) (list list' : List ℕ) (r : ℕ) : Type 0 where
+pub record FrameSalvaged (y : System) (frame : List ℕ) (samples' : List ℤ) (list list' : FaultList) : Type 0 where
   pub sound : samples' ≡ salvaged y frame
-  pub noted : Noted list 0 (frame_faults y frame) list' r
+  pub noted : NotedIn list (frame_faults y frame) list'

@@ -1,24 +1,24 @@
 // The call: its refusals in their order, then the audio channels one after the other.
-ghost use Rattle.std.specs.Prelude.{length};
+ghost use Rattle.std.specs.Prelude.{◌≡◌, length};
 ghost use Rattle.rules_surveys.specs.Salvage.{Salvaged};
 ghost use Rattle.rescue.specs.Asked.{FrameAsked, FrameSalvaged};
 
 use crate::half;
+use fault_list::FaultList;
 use paper::{Survey, System};
 
 // Every audio channel.
-fn salvage_all(frame: &[u8], y: System, samples: &mut [i32], list: &mut [u32]) -> u32
-    requires { FrameAsked frame.now y (length samples.old) }
-    ensures { FrameSalvaged y frame.now samples.new list.old list.new result }
+fn salvage_all(frame: &[u8], y: System, samples: &mut [i32], list: &mut FaultList)
+    requires frame_asked { FrameAsked frame.now y (length samples.old) }
+    requires first { list.old.total ≡ 0 }
+    ensures { FrameSalvaged y frame.now samples.new list.old list.new }
 {
     let size = layout::positions(y) as usize;
-    let mut total: u32 = 0;
     for i in 0..8u32 {
         let at = (i as usize) * size;
         let to = at + size;
-        total = half::salvage_half(frame, y, i, &mut samples[at..to], list, total);
+        half::salvage_half(frame, y, i, &mut samples[at..to], list);
     }
-    total
 }
 
 // Every position of every audio channel, and the fault list. Refusals: 1, 2, 4.
@@ -36,7 +36,10 @@ pub fn salvage(system: u32, frame: &[u8], samples: &mut [i32], list: &mut [u32])
     if !room {
         return fault_list::refused(4);
     }
-    let size = list.len();
-    let total = salvage_all(frame, y, samples, list);
-    fault_list::answered(total, size)
+    let mut found = FaultList {
+        numbers: list,
+        total: 0,
+    };
+    salvage_all(frame, y, samples, &mut found);
+    found.answered()
 }

@@ -3,11 +3,12 @@ ghost use Rattle.std.specs.Prelude.{◌≡◌, ◌+◌, ◌*◌, ◌≤◌, ◌<
 ghost use Rattle.rules_format.specs.Systems.{half_of, positions_of};
 ghost use Rattle.rules_format.specs.Blocks.{sequence_at};
 ghost use Rattle.rules_format.specs.Sound.{dif_of};
-ghost use Rattle.rules_surveys.specs.Noting.{Noted};
+ghost use Rattle.fault_list.specs.Listed.{NotedIn};
 ghost use Rattle.sequence_samples.specs.Taken.{Between};
 ghost use Rattle.rescue.specs.Taken.{held_sample, samples_fit, samples_left, rank_sequence, rank_faults};
 ghost use Rattle.rescue.specs.Asked.{RankAsked, HalfAsked, HalfSalvaged};
 
+use fault_list::FaultList;
 use layout::SEQUENCE;
 use paper::System;
 
@@ -38,14 +39,14 @@ fn take_rank(frame: &[u8], y: System, i: u32, r: u32, samples: &mut [i32])
     sequence_samples::take_sequence(part, y, i / 2, rank_sequence(y, i, r), samples);
 }
 
-// Its faults, where t came before.
-fn survey_rank(frame: &[u8], y: System, i: u32, r: u32, list: &mut [u32], t: u32) -> u32
+// Its faults.
+fn survey_rank(frame: &[u8], y: System, i: u32, r: u32, list: &mut FaultList)
     requires rank_asked { RankAsked frame.now y i r }
-    requires t_bound { t ≤ 7200 }
-    ensures { Noted list.old t (rank_faults y frame.now i r) list.new result }
+    requires t_bound { list.old.total ≤ 7200 }
+    ensures { NotedIn list.old (rank_faults y frame.now i r) list.new }
 {
     let part = rank_part(frame, y, i, r);
-    fault_list::survey_next(y, i / 2, rank_sequence(y, i, r), part, list, t)
+    list.survey_next(y, i / 2, rank_sequence(y, i, r), part);
 }
 
 // The samples of an audio channel.
@@ -65,19 +66,16 @@ pub(crate) fn salvage_half(
     y: System,
     i: u32,
     samples: &mut [i32],
-    list: &mut [u32],
-    t: u32,
-) -> u32
-    requires half_asked { HalfAsked frame.now y i t }
+    list: &mut FaultList,
+)
+    requires half_asked { HalfAsked frame.now y i list.old.total }
     requires samples_len_bound { length samples.old ≤ positions_of y }
-    ensures { HalfSalvaged y frame.now i t samples.old samples.new list.old list.new result }
+    ensures { HalfSalvaged y frame.now i samples.old samples.new list.old list.new }
 {
-    let mut total = t;
     for r in 0..layout::half(y) {
-        total = survey_rank(frame, y, i, r, list, total);
+        survey_rank(frame, y, i, r, list);
         take_rank(frame, y, i, r, samples);
     }
-    total
 }
 
 // What is lent fits the system.

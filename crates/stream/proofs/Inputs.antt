@@ -24,7 +24,10 @@ use Rattle.rules_surveys.specs.Survey.{outside_sequences}
 use Rattle.rules_format.proofs.Systems.{sequences_some, sequences_le}
 use Rattle.rules_surveys.proofs.FaultLists.{sequence_faults_le}
 use Rattle.rules_surveys.proofs.Records.{noted_none, noted_turn}
+use Rattle.fault_list.specs.declared.list.FaultList.{FaultList}
 use Rattle.fault_list.specs.Asked.{next_faults}
+use Rattle.fault_list.specs.Listed.{NotedIn}
+use Rattle.fault_list.proofs.Listing.{in_noted}
 use Rattle.fault_list.proofs.Next.{next_inside, none_outside, none_length}
 use Rattle.stream.specs.declared.Reading.{Reading}
 use Rattle.stream.specs.Input.{of_rate, system_from, nth_faults, read_faults, counted_to, Read, nothing, system_after, next_system, faults_after, Next, Refilled}
@@ -231,6 +234,14 @@ next_reads r part list list' y n c u ey en ec a =
       count = ec;
       last = refl;
     }
+
+-- the list was lent as `old`
+pub next_found : (r : Reading) (part list list' : List ℕ) (y : System) (n c : ℕ) (old new : FaultList) → y ≡ next_system r part → n ≡ sequences_of y → c ≡ min (r.count + length part) counted_to
+    → NotedIn old (next_faults y (r.count / 12000 / n) (r.count / 12000 % n) part r.total) new → old.numbers.now ≡ list → old.total ≡ r.total
+    → (length list' ≡ length list) × (old.numbers.ghost_name ≡ new.numbers.ghost_name → list' ≡ new.numbers.now)
+    → Next r part list (record { count = c; system = y; total = new.total; last = length part }) list'
+next_found r part list list' y n c old new ey en ec a el et back =
+    next_reads r part list list' y n c new.total ey en ec (rw et at (in_noted old new list list' a el back))
 
 take_least : (n : ℕ) (l : List ℕ) → take (min n (length l)) l ≡ take n l
 take_least n l =

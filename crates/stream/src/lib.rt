@@ -4,6 +4,7 @@
 ghost use Rattle.std.specs.Prelude.{◌≡◌, ◌+◌, min, length};
 ghost use Rattle.stream.specs.Input.{counted_to, of_rate, nothing, system_after, Next, Refilled};
 
+use fault_list::FaultList;
 use layout::SEQUENCE;
 use paper::System;
 
@@ -18,7 +19,7 @@ pub struct Reading {
 }
 
 // More bytes than any frame has: an endless input is counted no further.
-const COUNTED: u32 = 1000000;
+const COUNTED: usize = 1000000;
 
 // Before the first refill.
 pub fn start() -> Reading
@@ -32,23 +33,11 @@ pub fn start() -> Reading
     }
 }
 
-fn least(a: usize, b: usize) -> usize
-    ensures { result ≡ min a b }
-{
-    if a < b { a } else { b }
-}
-
 // The count after `more` bytes.
 fn counted(count: u32, more: usize) -> u32
     ensures { result ≡ min (count + more) counted_to }
 {
-    if COUNTED <= count {
-        return COUNTED;
-    }
-    if ((COUNTED - count) as usize) < more {
-        return COUNTED;
-    }
-    count + (more as u32)
+    (count as usize).saturating_add(more).min(COUNTED) as u32
 }
 
 // The 1080 system of a rate. Faults depend on the sequences alone, which are the same for every system of a rate.
@@ -81,11 +70,15 @@ fn next(r: Reading, part: &[u8], list: &mut [u32]) -> Reading
     let k = r.count / (SEQUENCE as u32);
     let h = k / n;
     let q = k % n;
-    let total = fault_list::survey_next(y, h, q, part, list, r.total);
+    let mut found = FaultList {
+        numbers: list,
+        total: r.total,
+    };
+    found.survey_next(y, h, q, part);
     Reading {
         count: counted(r.count, part.len()),
         system: y,
-        total: total,
+        total: found.total,
         last: part.len(),
     }
 }
@@ -94,6 +87,5 @@ fn next(r: Reading, part: &[u8], list: &mut [u32]) -> Reading
 pub fn refill(r: Reading, got: usize, buf: &[u8], list: &mut [u32]) -> Reading
     ensures { Refilled r got buf.now list.old result list.new }
 {
-    let end = least(got, buf.len());
-    next(r, &buf[..end], list)
+    next(r, &buf[..got.min(buf.len())], list)
 }

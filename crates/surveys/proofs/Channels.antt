@@ -10,14 +10,15 @@ use Rattle.paper.specs.declared.System.{System}
 use Rattle.rules_format.specs.Systems.{sequences_of}
 use Rattle.rules_format.specs.Blocks.{sequence_at}
 use Rattle.rules_surveys.specs.FaultLists.{part_faults, channel_faults, frame_faults}
-use Rattle.rules_surveys.specs.Noting.{Noted}
 use Rattle.rules_format.proofs.Systems.{sequences_le}
 use Rattle.rules_format.proofs.Blocks.{before_channel, sequence_length}
 use Rattle.rules_surveys.proofs.FaultLists.{parts_le, channels_le}
-use Rattle.rules_surveys.proofs.Records.{noted_turn}
+use Rattle.fault_list.specs.declared.list.FaultList.{FaultList}
 use Rattle.fault_list.specs.Asked.{next_faults}
+use Rattle.fault_list.specs.Listed.{NotedIn}
+use Rattle.fault_list.proofs.Listing.{in_turn}
 use Rattle.fault_list.proofs.Next.{next_inside}
-use Rattle.surveys.specs.Asked.{PartAsked, ChannelAsked}
+use Rattle.surveys.specs.Asked.{PartAsked, ChannelAsked, FrameAsked}
 
 -- ---- part_of: m is what `sequences` answers
 
@@ -38,29 +39,27 @@ module _ (frame : List ℕ) (y : System) (h t m q : ℕ) (a : ChannelAsked frame
   pub part_asked : PartAsked frame y h q
   part_asked = record { whole = a.whole; channel = a.channel; sequence = omega (arith, em) }
 
-  pub part_turn : (total : ℕ) (part list list' list'' : List ℕ) (r : ℕ) → Noted list t (run (part_faults y frame h) q) list' total → part ≡ sequence_at y frame h q
-      → Noted list' total (next_faults y h q part total) list'' r → Noted list t (run (part_faults y frame h) (q + 1)) list'' r
-  part_turn total part list list' list'' r n e k =
-      let few : total < 8000 = omega (arith, n.total, a.few, parts_le y frame h q, em, sequences_le y) in
-      let inside = next_inside y h q (sequence_at y frame h q) total a.channel (omega (arith, em)) (sequence_length y frame h q a.whole a.channel (omega (arith, em))) few in
-      noted_turn (part_faults y frame h) q n (rw inside at (rw e at k))
+  pub part_turn : (part : List ℕ) (list list' list'' : FaultList) → t ≡ list.total → NotedIn list (run (part_faults y frame h) q) list' → part ≡ sequence_at y frame h q
+      → NotedIn list' (next_faults y h q part list'.total) list'' → NotedIn list (run (part_faults y frame h) (q + 1)) list''
+  part_turn part list list' list'' et n e k =
+      let few : list'.total < 8000 = omega (arith, n.noted.total, a.few, et, parts_le y frame h q, em, sequences_le y) in
+      let inside = next_inside y h q (sequence_at y frame h q) list'.total a.channel (omega (arith, em)) (sequence_length y frame h q a.whole a.channel (omega (arith, em))) few in
+      in_turn (part_faults y frame h) q n (rw inside at (rw e at k))
 
-pub parts_done : (frame : List ℕ) (y : System) (h t m q r : ℕ) (list list' : List ℕ) → m ≡ sequences_of y → q ≤ m → m ≤ q → Noted list t (run (part_faults y frame h) q) list' r
-    → Noted list t (channel_faults y frame h) list' r
+pub parts_done : (frame : List ℕ) (y : System) (h m q : ℕ) (list list' : FaultList) → m ≡ sequences_of y → q ≤ m → m ≤ q → NotedIn list (run (part_faults y frame h) q) list'
+    → NotedIn list (channel_faults y frame h) list'
 unfolding channel_faults
-parts_done frame y h t m q r list list' em a b n = let e : q ≡ sequences_of y = omega arith in rw e at n
+parts_done frame y h m q list list' em a b n = let e : q ≡ sequences_of y = omega arith in rw e at n
 
 -- ---- survey_all: DIF channel h
 
-module _ (frame : List ℕ) (y : System) (h total : ℕ) (list list' : List ℕ) (whole : length frame ≡ 48000 * sequences_of y) (l : h < 4)
-    (n : Noted list 0 (run (channel_faults y frame) h) list' total) where
-  pub channel_asked : ChannelAsked frame y h total
-  channel_asked = record { whole = whole; channel = l; few = omega (arith, n.total, channels_le y frame h) }
+module _ (frame : List ℕ) (y : System) (h : ℕ) (list list' : FaultList) (asked : FrameAsked frame y list.total) (l : h < 4) (n : NotedIn list (run (channel_faults y frame) h) list') where
+  pub channel_asked : ChannelAsked frame y h list'.total
+  channel_asked = record { whole = asked.whole; channel = l; few = omega (arith, n.noted.total, asked.first, channels_le y frame h) }
 
-  pub channel_turn : (list'' : List ℕ) (r : ℕ) → Noted list' total (channel_faults y frame h) list'' r → Noted list 0 (run (channel_faults y frame) (h + 1)) list'' r
-  channel_turn list'' r k = noted_turn (channel_faults y frame) h n k
+  pub channel_turn : (list'' : FaultList) → NotedIn list' (channel_faults y frame h) list'' → NotedIn list (run (channel_faults y frame) (h + 1)) list''
+  channel_turn list'' k = in_turn (channel_faults y frame) h n k
 
-pub channels_done : (frame : List ℕ) (y : System) (h r : ℕ) (list list' : List ℕ) → h ≤ 4 → 4 ≤ h → Noted list 0 (run (channel_faults y frame) h) list' r
-    → Noted list 0 (frame_faults y frame) list' r
+pub channels_done : (frame : List ℕ) (y : System) (h : ℕ) (list list' : FaultList) → h ≤ 4 → 4 ≤ h → NotedIn list (run (channel_faults y frame) h) list' → NotedIn list (frame_faults y frame) list'
 unfolding frame_faults
-channels_done frame y h r list list' a b n = let e : h ≡ 4 = omega arith in rw e at n
+channels_done frame y h list list' a b n = let e : h ≡ 4 = omega arith in rw e at n

@@ -14,3 +14,8 @@ pub record ChannelAsked (frame : List ℕ) (y : System) (h t : ℕ) : Type 0 whe
   pub whole : length frame ≡ 48000 * sequences_of y
   pub channel : h < 4
   pub few : t < 6000
+
+-- a frame, before any fault
+pub record FrameAsked (frame : List ℕ) (y : System) (t : ℕ) : Type 0 where
+  pub whole : length frame ≡ 48000 * sequences_of y
+  pub first : t ≡ 0

@@ -1,12 +1,12 @@
 // The survey of a frame, sequence by sequence.
-ghost use Rattle.std.specs.Prelude.{◌≡◌, ◌*◌, length};
-ghost use Rattle.rules_format.specs.Systems.{sequences_of};
+ghost use Rattle.std.specs.Prelude.{◌≡◌};
 ghost use Rattle.rules_format.specs.Blocks.{sequence_at};
 ghost use Rattle.rules_surveys.specs.FaultLists.{channel_faults, frame_faults};
-ghost use Rattle.rules_surveys.specs.Noting.{Noted};
 ghost use Rattle.rules_surveys.specs.Survey.{FrameSurveyed};
-ghost use Rattle.surveys.specs.Asked.{PartAsked, ChannelAsked};
+ghost use Rattle.fault_list.specs.Listed.{NotedIn};
+ghost use Rattle.surveys.specs.Asked.{PartAsked, ChannelAsked, FrameAsked};
 
+use fault_list::FaultList;
 use layout::{CHANNELS, SEQUENCE};
 use paper::{Survey, System};
 
@@ -20,27 +20,23 @@ fn part_of(frame: &[u8], y: System, h: u32, q: u32) -> &[u8]
 }
 
 // The survey of one DIF channel.
-fn survey_channel(frame: &[u8], y: System, h: u32, list: &mut [u32], t: u32) -> u32
-    requires { ChannelAsked frame.now y h t }
-    ensures { Noted list.old t (channel_faults y frame.now h) list.new result }
+fn survey_channel(frame: &[u8], y: System, h: u32, list: &mut FaultList)
+    requires { ChannelAsked frame.now y h list.old.total }
+    ensures { NotedIn list.old (channel_faults y frame.now h) list.new }
 {
-    let mut total = t;
     for q in 0..layout::sequences(y) {
-        total = fault_list::survey_next(y, h, q, part_of(frame, y, h, q), list, total);
+        list.survey_next(y, h, q, part_of(frame, y, h, q));
     }
-    total
 }
 
 // The survey of a frame.
-fn survey_all(frame: &[u8], y: System, list: &mut [u32]) -> u32
-    requires { length frame.now ≡ 48000 * sequences_of y }
-    ensures { Noted list.old 0 (frame_faults y frame.now) list.new result }
+fn survey_all(frame: &[u8], y: System, list: &mut FaultList)
+    requires { FrameAsked frame.now y list.old.total }
+    ensures { NotedIn list.old (frame_faults y frame.now) list.new }
 {
-    let mut total: u32 = 0;
     for h in 0..CHANNELS {
-        total = survey_channel(frame, y, h, list, total);
+        survey_channel(frame, y, h, list);
     }
-    total
 }
 
 // The survey of a frame. Refusals: 1, 2.
@@ -53,7 +49,10 @@ pub fn survey(system: u32, frame: &[u8], list: &mut [u32]) -> Survey
     if frame.len() != layout::frame_bytes(y) {
         return fault_list::refused(2);
     }
-    let size = list.len();
-    let total = survey_all(frame, y, list);
-    fault_list::answered(total, size)
+    let mut found = FaultList {
+        numbers: list,
+        total: 0,
+    };
+    survey_all(frame, y, &mut found);
+    found.answered()
 }

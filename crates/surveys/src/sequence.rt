@@ -1,6 +1,7 @@
 // The survey of one sequence.
 ghost use Rattle.rules_surveys.specs.Survey.{SequenceSurveyed};
 
+use fault_list::FaultList;
 use layout::SEQUENCE;
 use paper::Survey;
 
@@ -25,7 +26,10 @@ pub fn survey_sequence(
     if misfit {
         return fault_list::refused(4);
     }
-    let size = list.len();
-    let total = fault_list::survey_next(y, channel, sequence, part, list, 0);
-    fault_list::answered(total, size)
+    let mut found = FaultList {
+        numbers: list,
+        total: 0,
+    };
+    found.survey_next(y, channel, sequence, part);
+    found.answered()
 }

@@ -1,4 +1,5 @@
 -- `fault_list::sequence::survey_block` meets its contract: the judged bits are the place's, or the fault is 0, or it is noted. Assumes nothing.
+use mathlib.Core.Path.{refl}
 use native.Mathlib.Omega.{arith}
 use borrow.Author.Rules.{rules}
 use Rattle.judged_bits.proofs.Clear.{bits_below}
@@ -9,10 +10,10 @@ pub overflow_add-printed : goal.overflow_add-printed
 overflow_add-printed c = omega (arith, bits_below c.requires.block_asked)
 
 pub returns-then-judged-printed : goal.returns-then-judged-printed
-returns-then-judged-printed c = search (bits_clean, rules)
+returns-then-judged-printed c = record { lent = refl; noted = search (bits_clean, rules) }
 
 pub returns-in_default : goal.returns-in_default
-returns-in_default c = search (fault_clean, rules)
+returns-in_default c = record { lent = refl; noted = search (fault_clean, rules) }
 
 pub returns : goal.returns
-returns c = search (fault_noted, rules)
+returns c = record { lent = c.note.ensures.lent; noted = search (fault_noted, rules) }

@@ -2,10 +2,10 @@ use mathlib.Core.Path.{◌≡◌}
 use Prim.Native.Nat.{◌+◌, ◌*◌}
 use Rattle.base.specs.Run.{run}
 use Rattle.rules_format.specs.Systems.{half_of}
-use Rattle.rules_surveys.specs.Noting.{Noted}
+use Rattle.fault_list.specs.Listed.{NotedIn}
 use Rattle.sequence_samples.specs.Taken.{Between}
 use Rattle.rescue.specs.Taken.{held_sample, rank_faults}
 use Rattle.rescue.proofs.half.salvage_half.Given as goal
 
 abbrev pub invariant-loop-r : goal.invariant-loop-r
-invariant-loop-r l = Between (half_of l.y) 0 (9 * l.r) (held_sample l.y l.frame (l.i + 1)) l.initial.samples l.samples × Noted l.initial.list l.t (run (rank_faults l.y l.frame l.i) l.r) l.list l.total × (l.r-end ≡ half_of l.y)
+invariant-loop-r l = Between (half_of l.y) 0 (9 * l.r) (held_sample l.y l.frame (l.i + 1)) l.initial.samples l.samples × NotedIn l.initial.list (run (rank_faults l.y l.frame l.i) l.r) l.list × (l.r-end ≡ half_of l.y)

@@ -1,9 +1,9 @@
 use mathlib.Core.Path.{◌≡◌}
 use Rattle.base.specs.Run.{run}
 use Rattle.rules_surveys.specs.FaultLists.{part_faults}
-use Rattle.rules_surveys.specs.Noting.{Noted}
+use Rattle.fault_list.specs.Listed.{NotedIn}
 use Rattle.rules_format.specs.Systems.{sequences_of}
 use Rattle.surveys.proofs.frame.survey_channel.Given as goal
 
 abbrev pub invariant-loop-q : goal.invariant-loop-q
-invariant-loop-q l = (l.q-end ≡ sequences_of l.y) × Noted l.initial.list l.t (run (part_faults l.y l.frame l.h) l.q) l.list l.total
+invariant-loop-q l = (l.q-end ≡ sequences_of l.y) × NotedIn l.initial.list (run (part_faults l.y l.frame l.h) l.q) l.list
