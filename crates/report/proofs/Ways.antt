@@ -41,11 +41,11 @@ module _ (list : List ℕ) (i : ℕ) where
   unfolding record_line
   record_none out l = printed_none _ out (pick_true _ _ (lt-ltb _ _ l))
 
-  pub record_printed : (out out' : List ℕ) (r : ℕ) → width * i + width ≤ length list
-      → Lined 0x46 (take (width * i + width - width * i) (drop (width * i) list)) out out' r → Printed (record_line list i) out out' r
+  pub record_printed : (fields out out' : List ℕ) (r : ℕ) → width * i + width ≤ length list
+      → fields ≡ take (width * i + width - width * i) (drop (width * i) list) → Lined 0x46 fields out out' r → Printed (record_line list i) out out' r
   unfolding record_line
-  record_printed out out' r l p =
-      let e = range_part (width * i) width list in
+  record_printed fields out out' r l f p =
+      let e : fields ≡ take width (drop (width * i) list) = f ∙ range_part (width * i) width list in
       let n : length (take width (drop (width * i) list)) ≡ width = length_part (width * i) width list l in
       printed 0x46 (take width (drop (width * i) list)) _ out out' r (omega (arith, n)) (pick_false _ _ (le-ltb _ _ l)) (rw e at p)
 

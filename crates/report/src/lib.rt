@@ -16,10 +16,10 @@ fn record_line(list: &[u32], i: u32, out: &mut [u8]) -> usize
     ensures { Printed (record_line list.now i) out.old out.new result }
 {
     let at = RECORD * (i as usize);
-    if list.len() < at + RECORD {
-        return 0;
+    match list.get(at..at + RECORD) {
+        Some(fields) => text::line(b'F', fields, out),
+        None => 0,
     }
-    text::line(b'F', &list[at..at + RECORD], out)
 }
 
 fn totals_line(total: u32, kept: u32, out: &mut [u8]) -> usize

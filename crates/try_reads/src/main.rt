@@ -36,25 +36,18 @@ fn step(
         "w" => write(rt, line, numbers, macroblocks, frame),
         "p" => changes::patched(rt, line, frame, numbers),
         "n" => changes::replaced(rt, line, frame, numbers),
-        "k" | "o" | "r" => {
-            change(line, frame);
+        "k" => {
+            changes::keep(line, frame);
             Ok(())
         }
-        _ => ask(rt, line, frame, numbers),
-    }
-}
-
-// A line that changes bytes and prints nothing.
-fn change(line: Line<'_>, frame: &mut [u8]) {
-    match line.letter {
-        "k" => changes::keep(line, frame),
-        "o" => changes::over(line, frame),
-        _ => values::fill_rubbish(frame),
-    }
-}
-
-fn ask(rt: &impl Print, line: Line<'_>, frame: &[u8], numbers: &mut [i32]) -> io::Result<()> {
-    match line.letter {
+        "o" => {
+            changes::over(line, frame);
+            Ok(())
+        }
+        "r" => {
+            values::fill_rubbish(frame);
+            Ok(())
+        }
         "t" => asks::tried(rt, line, frame, numbers),
         "a" => asks::audio(rt, line, frame, numbers),
         "m" => asks::macroblock(rt, line, frame),
