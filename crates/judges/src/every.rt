@@ -8,11 +8,11 @@ ghost use Rattle.judges.specs.Tests.{test_of};
 
 use crate::Test;
 use crate::read::Sequence;
-use layout::CHANNELS;
+use layout::{CHANNELS, DifSequence};
 use paper::{Pack, System};
 
 // The DIF channel of an audio channel; there is no audio channel 0, and 0 stands in.
-fn dif(c: u32) -> u32
+fn dif_of(c: u32) -> u32
     ensures { result ≡ dif_of c }
 {
     if c == 0 { 0 } else { (c - 1) / 2 }
@@ -32,7 +32,11 @@ fn every_from(y: System, frame: &[u8], test: Test, h: u32, q: u32, k: u32) -> bo
 {
     let mut good = true;
     for r in 0..k {
-        good = Sequence::of(y, frame, h, q + r).passes(test) & good;
+        let dif = DifSequence {
+            channel: h,
+            sequence: q + r,
+        };
+        good = Sequence::of(y, frame, dif).passes(test) & good;
     }
     good
 }
@@ -53,13 +57,16 @@ pub fn every_in_half(y: System, frame: &[u8], audio: u32, test: Test) -> bool
     ensures { result ≡ every_in_half y frame.now audio (test_of y test) }
 {
     let q = first_in_half(y, audio);
-    every_from(y, frame, test, dif(audio), q, layout::half(y))
+    every_from(y, frame, test, dif_of(audio), q, layout::half(y))
 }
 
 // The first AS of an audio channel.
 pub fn first_as(y: System, frame: &[u8], audio: u32) -> Pack
     ensures { result ≡ first_as y frame.now audio }
 {
-    let first = first_in_half(y, audio);
-    Sequence::of(y, frame, dif(audio), first).source()
+    let dif = DifSequence {
+        channel: dif_of(audio),
+        sequence: first_in_half(y, audio),
+    };
+    Sequence::of(y, frame, dif).source()
 }

@@ -7,7 +7,7 @@ ghost use Rattle.rules_reads.specs.Audio.{as_in};
 ghost use Rattle.rules_reads.specs.Time.{ssyb_in};
 ghost use Rattle.judges.specs.Asked.{sequence_from, Low, InBlock};
 
-use layout::{BLOCK, SEQUENCE};
+use layout::{BLOCK, DifSequence};
 use paper::{BlockNumber, Pack, Place, Section, System};
 
 // A sequence of a system's frame by its number and its first byte. Past the frame's end there are zeros, so that every frame is
@@ -22,18 +22,16 @@ pub(crate) struct Sequence<'a> {
 }
 
 impl<'a> Sequence<'a> {
-    // Sequence `number` of DIF channel h.
-    pub(crate) fn of(system: System, frame: &'a [u8], h: u32, number: u32) -> Sequence<'a>
+    pub(crate) fn of(system: System, frame: &'a [u8], dif: DifSequence) -> Sequence<'a>
         ensures system { result.system ≡ system }
-        ensures number { result.number ≡ number }
-        ensures bytes { sequence_from result.frame.now result.start ≡ sequence_at system frame.now h number }
+        ensures number { result.number ≡ dif.sequence }
+        ensures bytes { sequence_from result.frame.now result.start ≡ sequence_at system frame.now dif.channel dif.sequence }
     {
-        let n = layout::sequences(system) as usize;
         Sequence {
             system,
-            number,
+            number: dif.sequence,
             frame,
-            start: (n * h as usize + number as usize) * SEQUENCE,
+            start: dif.start(system),
         }
     }
 

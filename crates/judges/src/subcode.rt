@@ -4,20 +4,26 @@ ghost use Rattle.rules_reads.specs.Time.{time_first, group_first, settled, pack_
 ghost use Rattle.judges.specs.Asked.{sequence_from};
 
 use crate::read::Sequence;
+use layout::DifSequence;
 use paper::{Pack, SubcodeData, SubcodePack, System};
+
+const FIRST: DifSequence = DifSequence {
+    channel: 0,
+    sequence: 0,
+};
 
 // The time code of SSYB 3 of DIF channel 0, sequence 0.
 pub fn time_first(y: System, frame: &[u8]) -> Pack
     ensures { result ≡ time_first y frame.now }
 {
-    Sequence::of(y, frame, 0, 0).ssyb(3)
+    Sequence::of(y, frame, FIRST).ssyb(3)
 }
 
 // The binary group of SSYB 4 of DIF channel 0, sequence 0.
 pub fn group_first(y: System, frame: &[u8]) -> Pack
     ensures { result ≡ group_first y frame.now }
 {
-    Sequence::of(y, frame, 0, 0).ssyb(4)
+    Sequence::of(y, frame, FIRST).ssyb(4)
 }
 
 // A time code as it is compared and answered: at 50 Hz bit 6 of PC1 is 1.

@@ -1,12 +1,14 @@
 // The four systems, the 150 places and block IDs: what every crate above reads frames by.
 #![tactic(auto)]
 
+mod dif;
 mod ids;
 mod parts;
 mod places;
 mod refusals;
 mod systems;
 
+pub use dif::DifSequence;
 pub use ids::{id_bytes, read_block, read_id};
 pub use parts::no_part;
 pub use places::{entry_at, entry_of, place_in, place_of, printed_places, section_code};
