@@ -15,11 +15,11 @@ pub fn number_of(cause: Cause) -> u32
 }
 
 // The number that an answer says, 0 where nothing refuses.
-pub fn number(said: Result<(), Cause>) -> u32
+pub fn number<T: Copy>(said: Result<T, Cause>) -> u32
     ensures { result ≡ number_said said }
 {
     match said {
-        Ok(()) => 0,
+        Ok(_) => 0,
         Err(cause) => number_of(cause),
     }
 }

@@ -1,5 +1,5 @@
--- The ways out of the strict reads. s is what the code's `system_of` answers. Assumes nothing.
-use Rattle.std.specs.Prelude.{Option, Some, None}
+-- The ways out of the strict reads. Assumes nothing.
+use Rattle.std.specs.Prelude.{Option, Some, None, IsSome}
 use mathlib.Core.Path.{◌≡◌, refl, sym, ap, ◌∙◌}
 use mathlib.Core.Bool.{Bool, true, false, ◌&&◌}
 use mathlib.Core.List.{List, ◌++◌}
@@ -17,6 +17,8 @@ use Rattle.base.proofs.Parts.{range_part}
 use Rattle.base.proofs.Picks.{pick_true, pick_false, both_held, both_hold}
 use Rattle.base.proofs.Runs.{tab_same, tab_constant}
 use Rattle.paper.specs.declared.System.{System}
+use Rattle.paper.specs.declared.Cause.{Cause}
+use Rattle.paper.specs.Causes.{cause_number}
 use Rattle.paper.specs.declared.Section.TheVariants.{Video}
 use Rattle.paper.specs.declared.BlockNumber.{BlockNumber}
 use Rattle.paper.specs.declared.Place.{Place}
@@ -42,10 +44,12 @@ use Rattle.rules_format.proofs.Blocks.{before_channel}
 use Rattle.rules_reads.proofs.Check.{rows_mean}
 use Rattle.rules_format.proofs.Reading.{salvaged_named}
 use Rattle.rules_reads.proofs.Reading.{sound_clean}
-use Rattle.rules_reads.proofs.Audio.{heard_marked, heard_recorded, audio_1, audio_zero, audio_stopped, audio_count, audio_done}
-use Rattle.rules_reads.proofs.Macroblock.{macroblock_1, macroblock_zero, macroblock_lies_stopped, macroblock_lies_found, macroblock_lies_within}
+use Rattle.rules_reads.proofs.Audio.{heard_marked, heard_recorded, audio_zero, audio_stopped, audio_count, audio_done}
+use Rattle.rules_reads.proofs.Macroblock.{macroblock_zero, macroblock_lies_stopped, macroblock_lies_found, macroblock_lies_within}
 use Rattle.rules_picture.proofs.Picture.{carrier_carries, carried_inside}
-use Rattle.rules_reads.proofs.Time.{time_1, time_stopped, time_done}
+use Rattle.rules_reads.proofs.Time.{time_stopped, time_done}
+use Rattle.layout.specs.Asked.{FrameKnown}
+use Rattle.layout.proofs.Saying.{never_zero}
 use Rattle.rescue.specs.Taken.{held_sample, samples_fit, samples_left}
 use Rattle.reader.specs.Asked.{SlotAsked, SlotStart}
 
@@ -70,40 +74,37 @@ module _ (y : System) (h q : ℕ) (v : BlockNumber) (asked : SlotAsked y h q v) 
 
 -- ---- macroblock_at and macroblock
 
-module _ (k : ℕ) (frame : List ℕ) (b : ℕ) (s : Option System) (es : s ≡ system_of k) where
-  pub lies_no_system : s ≡ None → (r : Part) → r ≡ no_part 1 → MacroblockLies k frame b r
-  lies_no_system e = macroblock_lies_stopped k frame b 1 (macroblock_1 k frame b (sym es ∙ e)) (λ z. omega arith)
+module _ (k : ℕ) (frame : List ℕ) (b : ℕ) where
+  pub lies_refused : (cause : Cause) → MacroblockNumbered k frame b (cause_number cause) → (t : Part) → t ≡ no_part (cause_number cause) → MacroblockLies k frame b t
+  lies_refused cause er = macroblock_lies_stopped k frame b (cause_number cause) er.answer (never_zero cause)
 
-  module _ (y : System) (e : s ≡ Some y) (r : ℕ) (er : MacroblockNumbered k frame b r) where
-    pub lies_refused : (r ≡ 0 → ⊥) → (t : Part) → t ≡ no_part r → MacroblockLies k frame b t
-    lies_refused = macroblock_lies_stopped k frame b r er.answer
+  module _ (y : System) (is : FrameKnown k (length frame) y) (er : MacroblockNumbered k frame b 0) where
+    zero : macroblock_number k frame b ≡ 0
+    zero = sym er.answer
 
-    module _ (z : r ≡ 0) (c : Option Slot) (ec : c ≡ carrier_of y b) where
-      zero : macroblock_number k frame b ≡ 0
-      zero = sym er.answer ∙ z
+    holds : (length frame ≡ 48000 * sequences_of y) × (b < macroblocks_of y)
+    holds = let w = macroblock_zero k frame b y is.known zero in (w.0, w.1)
 
-      holds : (length frame ≡ 48000 * sequences_of y) × (b < macroblocks_of y)
-      holds = let w = macroblock_zero k frame b y (sym es ∙ e) zero in (w.0, w.1)
+    pub lies_somewhere : IsSome (carrier_of y b)
+    lies_somewhere = somewhere (carrier_of y b) (carrier_carries y b holds.1)
+      where
+        somewhere : (c : Option Slot) → carried_by (carried_in y) c ≡ Some b → IsSome c
+        somewhere (Some x) m = refl
+        somewhere None m = let q : ◌≡◌ {A = ℕ} 0 1 = cc in absurd (omega arith)
 
-      pub lies_nowhere : c ≡ None → (t : Part) → MacroblockLies k frame b t
-      lies_nowhere f t = let g : carrier_of y b ≡ None = sym ec ∙ f in absurd (nowhere_not (carrier_carries y b holds.1) g)
-        where
-          nowhere_not : carried_by (carried_in y) (carrier_of y b) ≡ Some b → carrier_of y b ≡ None → ⊥
-          nowhere_not m g = let q : ◌≡◌ {A = ℕ} 0 1 = cc in omega arith
+    module _ (c : Option Slot) (ec : c ≡ carrier_of y b) (slot : Slot) (f : c ≡ Some slot) where
+      lies : carrier_of y b ≡ Some slot
+      lies = sym ec ∙ f
 
-      module _ (slot : Slot) (f : c ≡ Some slot) where
-        lies : carrier_of y b ≡ Some slot
-        lies = sym ec ∙ f
+      carries : carried_in y slot ≡ Some b
+      carries = rw lies at (carrier_carries y b holds.1)
 
-        carries : carried_in y slot ≡ Some b
-        carries = rw lies at (carrier_carries y b holds.1)
+      pub slot_asked : SlotAsked y slot.channel slot.sequence slot.video
+      slot_asked = let i = carried_inside y slot b carries in record { channel = i.channel; sequence = i.sequence; video = i.video }
 
-        pub slot_asked : SlotAsked y slot.channel slot.sequence slot.video
-        slot_asked = let i = carried_inside y slot b carries in record { channel = i.channel; sequence = i.sequence; video = i.video }
-
-        pub lies_found : (at : ℕ) → SlotStart y slot.channel slot.sequence slot.video at → MacroblockLies k frame b (record { number = 0; start = at; length = 77 })
-        unfolding slot_start
-        lies_found at st = rw st.is (macroblock_lies_found k frame b y (sym es ∙ e) zero slot lies)
+      pub lies_found : (at : ℕ) → SlotStart y slot.channel slot.sequence slot.video at → MacroblockLies k frame b (record { number = 0; start = at; length = 77 })
+      unfolding slot_start
+      lies_found at st = rw st.is (macroblock_lies_found k frame b y is.known zero slot lies)
 
 module _ (k : ℕ) (frame : List ℕ) (b : ℕ) (r : Part) (m : MacroblockLies k frame b r) where
   pub part_ends : r.start + r.length ≤ length frame
@@ -114,14 +115,14 @@ module _ (k : ℕ) (frame : List ℕ) (b : ℕ) (r : Part) (m : MacroblockLies k
 
 -- ---- read_time
 
-module _ (k : ℕ) (frame : List ℕ) (s : Option System) (es : s ≡ system_of k) where
-  pub time_refused_1 : (r : TimeAnswer) → s ≡ None → r ≡ time_refused 1 → TimeRead k frame r
-  time_refused_1 r e er = time_stopped k frame 1 r (time_1 k frame (sym es ∙ e)) (λ z. omega arith) er
+module _ (k : ℕ) (frame : List ℕ) where
+  pub time_stops : (cause : Cause) → cause_number cause ≡ time_number k frame → (r : TimeAnswer) → r ≡ time_refused (cause_number cause) → TimeRead k frame r
+  time_stops cause e r = time_stopped k frame (cause_number cause) r e (never_zero cause)
 
-  pub time_answered : (y : System) → s ≡ Some y → (n : ℕ) → n ≡ time_number k frame → n ≡ 0 → (first time group : Pack) → first ≡ time_first y frame → time ≡ settled y first
+  pub time_answered : (y : System) → FrameKnown k (length frame) y → 0 ≡ time_number k frame → (first time group : Pack) → first ≡ time_first y frame → time ≡ settled y first
       → group ≡ group_first y frame → (a b : List ℕ) → a ≡ four_bytes time → b ≡ four_bytes group → TimeRead k frame (record { number = 0; time = a; group = b })
-  time_answered y e n en z first time group ef et eg a b ea eb =
-      time_done k frame y (sym es ∙ e) (sym en ∙ z) _ (rw (ea, eb, et, ef, eg) refl)
+  time_answered y is en first time group ef et eg a b ea eb =
+      time_done k frame y is.known (sym en) _ (rw (ea, eb, et, ef, eg) refl)
 
 -- a prefix that is lent has its length
 pub prefix_lent : (n : ℕ) (list : List ℤ) → n ≤ length list → n ≡ length (take n list)
@@ -136,19 +137,19 @@ module _ (y : System) (frame : List ℕ) (c : ℕ) (marked : Bool) (list list' :
   pub hears_words : marked ≡ false → list' ≡ samples_left y frame c list → list' ≡ pick marked (replicate (length list) lost) (samples_left y frame c list)
   hears_words e el = el ∙ sym (pick_false _ _ e)
 
--- ---- read_audio: n is the number, `first` the first AS, count and mode what it says
+-- ---- read_audio: `first` is the first AS, count and mode what it says
 
-module _ (k : ℕ) (frame : List ℕ) (c : ℕ) (list : List ℤ) (s : Option System) (es : s ≡ system_of k) where
-  pub audio_refused_1 : (r : AudioAnswer) → s ≡ None → r ≡ record { number = 1; count = 0 } → AudioRead k frame c list r list
-  audio_refused_1 r e er = audio_stopped k frame c list 1 r (audio_1 k frame c (length list) (sym es ∙ e)) (λ z. omega arith) er
+module _ (k : ℕ) (frame : List ℕ) (c : ℕ) (list : List ℤ) where
+  pub audio_stops : (cause : Cause) → cause_number cause ≡ audio_number k frame c (length list) → (r : AudioAnswer) → r ≡ record { number = cause_number cause; count = 0 } → AudioRead k frame c list r list
+  audio_stops cause e r = audio_stopped k frame c list (cause_number cause) r e (never_zero cause)
 
-  module _ (y : System) (e : s ≡ Some y) (n : ℕ) (en : n ≡ audio_number k frame c (length list)) (z : n ≡ 0) (first : Pack) (ef : first ≡ first_as y frame c)
+  module _ (y : System) (is : FrameKnown k (length frame) y) (en : 0 ≡ audio_number k frame c (length list)) (first : Pack) (ef : first ≡ first_as y frame c)
       (count : ℕ) (ec : count ≡ count_in first) where
     known : system_of k ≡ Some y
-    known = sym es ∙ e
+    known = is.known
 
     none : audio_number k frame c (length list) ≡ 0
-    none = sym en ∙ z
+    none = sym en
 
     count_is : count ≡ count_for y frame c
     count_is = ec ∙ ap count_in ef

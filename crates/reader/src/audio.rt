@@ -1,18 +1,19 @@
 // The audio read.
 ghost use Rattle.std.specs.Prelude.{◌≡◌, length, replicate};
 ghost use Rattle.base.specs.Pick.{pick};
+ghost use Rattle.paper.specs.Causes.{cause_number};
 ghost use Rattle.rules_format.specs.Samples.{lost};
 ghost use Rattle.rules_reads.specs.Audio.{AudioRead};
 ghost use Rattle.rescue.specs.Taken.{samples_left};
 
-use paper::{AudioAnswer, Sample, System};
+use paper::{AudioAnswer, Cause, Sample, System};
 
 // A refusal: its number, and no count.
-fn refused(number: u32) -> AudioAnswer
-    ensures { result ≡ record { number = number; count = 0 } }
+fn refused(cause: Cause) -> AudioAnswer
+    ensures { result ≡ record { number = cause_number cause; count = 0 } }
 {
     AudioAnswer {
-        number: number,
+        number: layout::number_of(cause),
         count: 0,
     }
 }
@@ -32,14 +33,11 @@ fn hear(y: System, frame: &[u8], audio: u32, marked: bool, samples: &mut [i32])
 pub fn read_audio(system: u32, frame: &[u8], audio: u32, samples: &mut [i32]) -> AudioAnswer
     ensures { AudioRead system frame.now audio samples.old result samples.new }
 {
-    let Some(y) = layout::system_of(system) else {
-        return refused(1);
-    };
     let size = samples.len();
-    let number = refuse_audio::audio_number(system, frame, audio, size);
-    if number != 0 {
-        return refused(number);
-    }
+    let y = match refuse_audio::refuse(system, frame, audio, size) {
+        Ok(y) => y,
+        Err(cause) => return refused(cause),
+    };
     let first = judges::first_as(y, frame, audio);
     let count = packs::count_in(first);
     let marked = packs::is_mark(packs::mode_in(first));

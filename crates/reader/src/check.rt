@@ -5,5 +5,5 @@ ghost use Rattle.rules_reads.specs.Check.{Checked};
 pub fn check_frame(system: u32, frame: &[u8]) -> u32
     ensures { Checked system frame.now result }
 {
-    refuse_check::check_number(system, frame)
+    layout::number(refuse_check::refuse(system, frame))
 }

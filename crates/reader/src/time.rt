@@ -1,9 +1,10 @@
 // The time code read.
 ghost use Rattle.std.specs.Prelude.{◌≡◌};
+ghost use Rattle.paper.specs.Causes.{cause_number};
 ghost use Rattle.rules_packs.specs.Packs.{four_bytes};
 ghost use Rattle.rules_reads.specs.Time.{time_refused, TimeRead};
 
-use paper::{Pack, TimeAnswer};
+use paper::{Cause, Pack, TimeAnswer};
 
 // The four bytes of a pack behind its header.
 fn four_bytes(p: Pack) -> [u8; 4]
@@ -13,11 +14,11 @@ fn four_bytes(p: Pack) -> [u8; 4]
 }
 
 // A refusal: its number, and zeros.
-fn refused(number: u32) -> TimeAnswer
-    ensures { result ≡ time_refused number }
+fn refused(cause: Cause) -> TimeAnswer
+    ensures { result ≡ time_refused (cause_number cause) }
 {
     TimeAnswer {
-        number: number,
+        number: layout::number_of(cause),
         time: [0; 4],
         group: [0; 4],
     }
@@ -27,13 +28,10 @@ fn refused(number: u32) -> TimeAnswer
 pub fn read_time(system: u32, frame: &[u8]) -> TimeAnswer
     ensures { TimeRead system frame.now result }
 {
-    let Some(y) = layout::system_of(system) else {
-        return refused(1);
+    let y = match refuse_time::refuse(system, frame) {
+        Ok(y) => y,
+        Err(cause) => return refused(cause),
     };
-    let number = refuse_time::time_number(system, frame);
-    if number != 0 {
-        return refused(number);
-    }
     let first = judges::time_first(y, frame);
     let time = judges::settled(y, first);
     let group = judges::group_first(y, frame);

@@ -19,23 +19,18 @@ fn slot_start(y: System, h: u32, q: u32, v: BlockNumber) -> usize
 pub fn macroblock_number(system: u32, frame: &[u8], b: u32) -> u32
     ensures { MacroblockNumbered system frame.now b result }
 {
-    refuse_macroblock::macroblock_number(system, frame, b)
+    layout::number(refuse_macroblock::refuse(system, frame, b))
 }
 
 // Where macroblock b lies: its first byte and its length, 77; zeros where its number is a refusal.
 pub fn macroblock_at(system: u32, frame: &[u8], b: u32) -> Part
     ensures { MacroblockLies system frame.now b result }
 {
-    let Some(y) = layout::system_of(system) else {
-        return layout::no_part(1);
+    let y = match refuse_macroblock::refuse(system, frame, b) {
+        Ok(y) => y,
+        Err(cause) => return layout::no_part(cause),
     };
-    let refusal = macroblock_number(system, frame, b);
-    if refusal != 0 {
-        return layout::no_part(refusal);
-    }
-    let Some(s) = picture::carrier(y, b) else {
-        return layout::no_part(refusal);
-    };
+    let s = picture::carrier(y, b).unwrap();
     Part {
         number: 0,
         start: slot_start(y, s.channel, s.sequence, s.video) as u32,

@@ -1,20 +1,24 @@
--- The ways out of the audio read's numbers, a lemma a row. s is what the code's `system_of` answers, n the frame's bytes. Assumes nothing.
-use Rattle.std.specs.Prelude.{Option, Some, None}
+-- The ways out of the audio read's refusals, a lemma a row. Assumes nothing.
 use mathlib.Core.Path.{◌≡◌, refl, sym, ap, ◌∙◌}
 use mathlib.Core.Bool.{Bool, true, false, not, ◌&&◌}
 use mathlib.Core.List.{List}
 use Prim.Native.Nat.{ℕ, ◌*◌}
 use lib.Dec.{eqb}
 use lib.ListN.{length}
-use borrow.Author.Tests.{not-true, not-false}
+use borrow.Author.Tests.{eq-eqb, not-true, not-false}
 use Rattle.base.specs.Calls.{first_of}
 use Rattle.paper.specs.declared.System.{System}
+use Rattle.paper.specs.declared.Cause.{Cause}
+use Rattle.paper.specs.Causes.{cause_number}
+use Rattle.layout.specs.Asked.{FrameKnown, frame_rows}
+use Rattle.layout.proofs.Saying.{never_zero}
+use Rattle.layout.proofs.Refusing.{frame_stops}
 use Rattle.paper.specs.declared.Pack.{Pack}
 use Rattle.rules_format.specs.Systems.{sequences_of, positions_of, system_of}
 use Rattle.rules_reads.specs.Check.{every_sequence, unflagged, check_rows}
 use Rattle.rules_packs.specs.Aaux.{count_in, mode_in}
 use Rattle.rules_reads.specs.Audio.{every_in_half, as_keeps, first_as, count_is, mode_is, as_agree, is_audio, audio_rows, audio_number}
-use Rattle.rules_reads.proofs.Audio.{audio_23, audio_24, audio_25, audio_0, audio_1, audio_2, audio_3, audio_4, audio_checked, audio_rows_lem}
+use Rattle.rules_reads.proofs.Audio.{audio_23, audio_24, audio_25, audio_0, audio_3, audio_4, audio_checked, audio_rows_lem}
 use Rattle.refuse_check.specs.Asked.{whole_number}
 use Rattle.refuse_check.proofs.Ways.{whole_number_lem}
 
@@ -25,7 +29,7 @@ pub agree_way : (y : System) (frame : List ℕ) (c : ℕ) (first : Pack) (count 
 unfolding as_agree
 agree_way y frame c first count mode a b ef ec em ea eb = rw (ea, eb, ec, em, ef) refl
 
--- ---- sound_number: a, b and d are the three judgements
+-- ---- refuse_sound: a, b and d are the three judgements
 
 module _ (y : System) (frame : List ℕ) (c : ℕ) (a : Bool) (ea : a ≡ every_sequence y frame (unflagged 1)) where
   pub sound_23 : not a ≡ true → 23 ≡ first_of (audio_rows y frame c)
@@ -42,41 +46,32 @@ module _ (y : System) (frame : List ℕ) (c : ℕ) (a : Bool) (ea : a ≡ every_
       pub sound_0 : not d ≡ false → 0 ≡ first_of (audio_rows y frame c)
       sound_0 e = audio_0 y frame c (sym ea ∙ not-false _ oa) (sym eb ∙ not-false _ ob) (sym ed ∙ not-false _ e)
 
--- ---- audio_number
+-- ---- refuse
 
-module _ (k : ℕ) (frame : List ℕ) (s : Option System) (es : s ≡ system_of k) where
-  pub audio_no_system : (c size : ℕ) → s ≡ None → 1 ≡ audio_number k frame c size
-  audio_no_system c size e = audio_1 k frame c size (sym es ∙ e)
+module _ (k : ℕ) (frame : List ℕ) (c size : ℕ) where
+  pub audio_stops : (cause : Cause) → cause_number cause ≡ first_of (frame_rows k (length frame)) → cause_number cause ≡ audio_number k frame c size
+  unfolding audio_number
+  audio_stops = frame_stops k (length frame) _
 
-  module _ (y : System) (e : s ≡ Some y) (n : ℕ) (en : n ≡ 48000 * sequences_of y) where
-    known : system_of k ≡ Some y
-    known = sym es ∙ e
+  module _ (y : System) (is : FrameKnown k (length frame) y) where
+    whole : eqb (length frame) (48000 * sequences_of y) ≡ true
+    whole = eq-eqb _ _ is.whole
 
-    -- bound by `let whole = frame.len() == n`
-    module _ (c size p : ℕ) (ep : p ≡ positions_of y) where
-      pub audio_wrong_length : not (eqb (length frame) n) ≡ true → 2 ≡ audio_number k frame c size
-      audio_wrong_length d = audio_2 k frame c size y known (ap (eqb (length frame)) (sym en) ∙ not-true _ d)
+    pub audio_no_channel : not (is_audio c) ≡ true → 3 ≡ audio_number k frame c size
+    audio_no_channel d = audio_3 k frame c size y is.known whole (not-true _ d)
 
-      module _ (w : not (eqb (length frame) n) ≡ false) where
-        whole : eqb (length frame) (48000 * sequences_of y) ≡ true
-        whole = ap (eqb (length frame)) (sym en) ∙ not-false _ w
+    module _ (ch : not (is_audio c) ≡ false) (p : ℕ) (ep : p ≡ positions_of y) where
+      pub audio_no_room : not (eqb size p) ≡ true → 4 ≡ audio_number k frame c size
+      audio_no_room d = audio_4 k frame c size y is.known whole (not-false _ ch) (ap (eqb size) (sym ep) ∙ not-true _ d)
 
-        pub audio_no_channel : not (is_audio c) ≡ true → 3 ≡ audio_number k frame c size
-        audio_no_channel d = audio_3 k frame c size y known whole (not-true _ d)
+      module _ (ro : not (eqb size p) ≡ false) where
+        room : eqb size (positions_of y) ≡ true
+        room = ap (eqb size) (sym ep) ∙ not-false _ ro
 
-        module _ (ch : not (is_audio c) ≡ false) where
-          pub audio_no_room : not (eqb size p) ≡ true → 4 ≡ audio_number k frame c size
-          audio_no_room d = audio_4 k frame c size y known whole (not-false _ ch) (ap (eqb size) (sym ep) ∙ not-true _ d)
+        pub audio_check_stops : (cause : Cause) → cause_number cause ≡ whole_number y frame → cause_number cause ≡ audio_number k frame c size
+        audio_check_stops cause e =
+            let checks = e ∙ whole_number_lem y frame whole in
+            checks ∙ audio_checked k frame c size y is.known whole (not-false _ ch) room (λ z. never_zero cause (checks ∙ z))
 
-          module _ (ro : not (eqb size p) ≡ false) (r : ℕ) (er : r ≡ whole_number y frame) where
-            room : eqb size (positions_of y) ≡ true
-            room = ap (eqb size) (sym ep) ∙ not-false _ ro
-
-            checks : r ≡ first_of (check_rows y frame)
-            checks = er ∙ whole_number_lem y frame whole
-
-            pub audio_check_stops : (r ≡ 0 → ⊥) → r ≡ audio_number k frame c size
-            audio_check_stops d = checks ∙ audio_checked k frame c size y known whole (not-false _ ch) room (λ z. d (checks ∙ z))
-
-            pub audio_through : r ≡ 0 → (i : ℕ) → i ≡ first_of (audio_rows y frame c) → i ≡ audio_number k frame c size
-            audio_through z i ei = ei ∙ audio_rows_lem k frame c size y known whole (not-false _ ch) room (sym checks ∙ z)
+        pub audio_through : 0 ≡ whole_number y frame → (i : ℕ) → i ≡ first_of (audio_rows y frame c) → i ≡ audio_number k frame c size
+        audio_through z i ei = ei ∙ audio_rows_lem k frame c size y is.known whole (not-false _ ch) room (sym (z ∙ whole_number_lem y frame whole))

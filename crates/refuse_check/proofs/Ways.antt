@@ -1,4 +1,4 @@
--- The ways out of the frame check, a lemma a row. s is what the code's `system_of` answers, n the frame's bytes. Assumes nothing.
+-- The ways out of the frame check, a lemma a row. Assumes nothing.
 use Rattle.std.specs.Prelude.{Option, Some, None}
 use mathlib.Core.Path.{◌≡◌, sym, ◌∙◌}
 use mathlib.Core.Bool.{Bool, true, false, not}
@@ -12,9 +12,13 @@ use Rattle.base.specs.Calls.{first_of}
 use Rattle.base.proofs.Cases.{by_bool}
 use Rattle.base.proofs.Picks.{pick_true, pick_false}
 use Rattle.paper.specs.declared.System.{System}
+use Rattle.paper.specs.declared.Cause.{Cause}
+use Rattle.paper.specs.Causes.{cause_number}
 use Rattle.rules_format.specs.Systems.{sequences_of, system_of}
-use Rattle.rules_reads.specs.Check.{every_sequence, dsf_agrees, vs_agrees, fault_in, check_rows, Checked}
-use Rattle.rules_reads.proofs.Check.{rows_fault, rows_21, rows_22, rows_0, check_1, check_2, check_rows_lem}
+use Rattle.rules_reads.specs.Check.{every_sequence, dsf_agrees, vs_agrees, fault_in, check_rows, check_number, Checked}
+use Rattle.rules_reads.proofs.Check.{rows_fault, rows_21, rows_22, rows_0, check_rows_lem}
+use Rattle.layout.specs.Asked.{FrameKnown, frame_rows}
+use Rattle.layout.proofs.Refusing.{frame_stops}
 use Rattle.first_fault.specs.Asked.{first_or_length}
 use Rattle.refuse_check.specs.Asked.{whole_number}
 
@@ -38,10 +42,7 @@ module _ (y : System) (frame : List ℕ) where
   unfolding first_or_length
   first_short e = pick_false _ _ e
 
-  module _ (f said : ℕ) (is : f ≡ said) (es : said ≡ first_or_length y frame) where
-    ef : f ≡ first_or_length y frame
-    ef = is ∙ es
-
+  module _ (f : ℕ) (ef : f ≡ first_or_length y frame) where
     pub checked_fault : (f ≡ 0 → ⊥) → f ≡ whole_number y frame
     checked_fault d =
         by_bool (eqb (length frame) (48000 * sequences_of y))
@@ -70,18 +71,14 @@ module _ (y : System) (frame : List ℕ) where
           pub checked_0 : not v ≡ false → 0 ≡ whole_number y frame
           checked_0 e = sym (rows_0 y frame clean (sym ed ∙ not-false _ ok) (sym ev ∙ not-false _ e)) ∙ rows
 
--- ---- check_number
+-- ---- refuse
 
-module _ (k : ℕ) (frame : List ℕ) (s : Option System) (es : s ≡ system_of k) where
-  pub check_no_system : s ≡ None → Checked k frame 1
-  check_no_system e = record { answer = check_1 k frame (sym es ∙ e) }
+module _ (k : ℕ) (frame : List ℕ) where
+  pub check_stops : (cause : Cause) → cause_number cause ≡ first_of (frame_rows k (length frame)) → Checked k frame (cause_number cause)
+  unfolding check_number
+  check_stops cause e = record { answer = frame_stops k (length frame) _ cause e }
 
-  module _ (y : System) (e : s ≡ Some y) (n : ℕ) (en : n ≡ 48000 * sequences_of y) where
-    known : system_of k ≡ Some y
-    known = sym es ∙ e
-
-    pub check_wrong_length : (length frame ≡ n → ⊥) → Checked k frame 2
-    check_wrong_length d = record { answer = check_2 k frame y known (ne_eqb _ _ (λ z. d (z ∙ sym en))) }
-
-    pub check_through : (r : ℕ) → length frame ≡ n → r ≡ whole_number y frame → Checked k frame r
-    check_through r l er = let w = eq-eqb _ _ (l ∙ en) in record { answer = er ∙ whole_number_lem y frame w ∙ check_rows_lem k frame y known w }
+  pub check_through : (y : System) → FrameKnown k (length frame) y → (r : ℕ) → r ≡ whole_number y frame → Checked k frame r
+  check_through y known r er =
+      let w = eq-eqb _ _ known.whole in
+      record { answer = er ∙ whole_number_lem y frame w ∙ check_rows_lem k frame y known.known w }

@@ -1,52 +1,44 @@
 // The refusals of a new audio channel.
 #![tactic(auto)]
 
-ghost use Rattle.std.specs.Prelude.{◌≡◌};
+ghost use Rattle.std.specs.Prelude.{◌≡◌, IfOk, length};
 ghost use Rattle.base.specs.Calls.{first_of};
+ghost use Rattle.paper.specs.Causes.{number_said};
+ghost use Rattle.layout.specs.Asked.{FrameKnown};
 ghost use Rattle.rules_replaces.specs.Replace.{replace_rows, replace_number};
 
-use paper::System;
+use paper::{Cause, System};
 
 // What is refused beyond the audio read: 29, 31, 33.
-fn list_number(y: System, frame: &[u8], audio: u32, samples: &[i32]) -> u32
-    ensures { result ≡ first_of (replace_rows y frame.now audio samples.now) }
+fn refuse_list(y: System, frame: &[u8], audio: u32, samples: &[i32]) -> Result<(), Cause>
+    ensures { number_said result ≡ first_of (replace_rows y frame.now audio samples.now) }
 {
     let first = judges::first_as(y, frame, audio);
     let count = packs::count_in(first) as usize;
     if samples.len() != count {
-        return 29;
+        return Err(Cause::NotTheCount);
     }
     if !sound::all_in_range(samples) {
-        return 31;
+        return Err(Cause::NoSample);
     }
     if packs::is_mark(packs::mode_in(first)) {
-        return 33;
+        return Err(Cause::Unrecorded);
     }
-    0
+    Ok(())
 }
 
-// The number of a new audio channel: 1, 2, 3, the frame check's, 23, 24, 25, 29, 31, 33.
-pub fn replace_number(system: u32, frame: &[u8], audio: u32, samples: &[i32]) -> u32
-    ensures { result ≡ replace_number system frame.now audio samples.now }
+// A new audio channel: 1, 2, 3, the frame check's, 23, 24, 25, 29, 31, 33.
+pub fn refuse(system: u32, frame: &[u8], audio: u32, samples: &[i32]) -> Result<System, Cause>
+    ensures said { number_said result ≡ replace_number system frame.now audio samples.now }
+    ensures known { IfOk result (λ y. FrameKnown system (length frame.now) y) }
 {
-    let Some(y) = layout::system_of(system) else {
-        return 1;
-    };
-    let whole = frame.len() == layout::frame_bytes(y);
+    let y = layout::system_of_frame(system, frame.len())?;
     let within = (0 < audio) & (audio < 9);
-    if !whole {
-        return 2;
-    }
     if !within {
-        return 3;
+        return Err(Cause::OutsideSystem);
     }
-    let number = refuse_check::checked(y, frame);
-    if number != 0 {
-        return number;
-    }
-    let heard = refuse_audio::sound_number(y, frame, audio);
-    if heard != 0 {
-        return heard;
-    }
-    list_number(y, frame, audio, samples)
+    refuse_check::refuse_known(y, frame)?;
+    refuse_audio::refuse_sound(y, frame, audio)?;
+    refuse_list(y, frame, audio, samples)?;
+    Ok(y)
 }

@@ -1,5 +1,4 @@
--- The ways out of the time code read's numbers, a lemma a row. s is what the code's `system_of` answers, n the frame's bytes. Assumes nothing.
-use Rattle.std.specs.Prelude.{Option, Some, None}
+-- The ways out of the time code read's refusals, a lemma a row. Assumes nothing.
 use mathlib.Core.Path.{◌≡◌, refl, sym, ◌∙◌}
 use mathlib.Core.Bool.{Bool, true, false, not, ◌&&◌}
 use mathlib.Core.List.{List}
@@ -9,6 +8,11 @@ use lib.ListN.{length}
 use borrow.Author.Tests.{eq-eqb, ne_eqb, not-true, not-false}
 use Rattle.base.specs.Calls.{first_of}
 use Rattle.paper.specs.declared.System.{System}
+use Rattle.paper.specs.declared.Cause.{Cause}
+use Rattle.paper.specs.Causes.{cause_number}
+use Rattle.layout.specs.Asked.{FrameKnown, frame_rows}
+use Rattle.layout.proofs.Saying.{never_zero}
+use Rattle.layout.proofs.Refusing.{frame_stops}
 use Rattle.paper.specs.declared.Pack.{Pack}
 use Rattle.rules_format.specs.Systems.{sequences_of, system_of}
 use Rattle.rules_packs.specs.TimeCode.{time_ok, group_ok}
@@ -42,28 +46,21 @@ module _ (y : System) (frame : List ℕ) (a : Bool) (ea : a ≡ every_sequence y
       pub clock_0 : not d ≡ false → 0 ≡ first_of (time_rows y frame)
       clock_0 e = time_0 y frame (sym ea ∙ not-false _ oa) (right ∙ not-false _ or) (same_packs ∙ not-false _ e)
 
--- ---- time_number
+-- ---- refuse
 
-module _ (k : ℕ) (frame : List ℕ) (s : Option System) (es : s ≡ system_of k) where
-  pub time_no_system : s ≡ None → 1 ≡ time_number k frame
-  time_no_system e = time_1 k frame (sym es ∙ e)
+module _ (k : ℕ) (frame : List ℕ) where
+  pub time_stops : (cause : Cause) → cause_number cause ≡ first_of (frame_rows k (length frame)) → cause_number cause ≡ time_number k frame
+  unfolding time_number
+  time_stops = frame_stops k (length frame) _
 
-  module _ (y : System) (e : s ≡ Some y) (n : ℕ) (en : n ≡ 48000 * sequences_of y) where
-    known : system_of k ≡ Some y
-    known = sym es ∙ e
+  module _ (y : System) (is : FrameKnown k (length frame) y) where
+    whole : eqb (length frame) (48000 * sequences_of y) ≡ true
+    whole = eq-eqb _ _ is.whole
 
-    pub time_wrong_length : (length frame ≡ n → ⊥) → 2 ≡ time_number k frame
-    time_wrong_length d = time_2 k frame y known (ne_eqb _ _ (λ z. d (z ∙ sym en)))
+    pub time_check_stops : (cause : Cause) → cause_number cause ≡ whole_number y frame → cause_number cause ≡ time_number k frame
+    time_check_stops cause e =
+        let checks = e ∙ whole_number_lem y frame whole in
+        checks ∙ time_checked k frame y is.known whole (λ z. never_zero cause (checks ∙ z))
 
-    module _ (r : ℕ) (l : length frame ≡ n) (er : r ≡ whole_number y frame) where
-      whole : eqb (length frame) (48000 * sequences_of y) ≡ true
-      whole = eq-eqb _ _ (l ∙ en)
-
-      checks : r ≡ first_of (check_rows y frame)
-      checks = er ∙ whole_number_lem y frame whole
-
-      pub time_check_stops : (r ≡ 0 → ⊥) → r ≡ time_number k frame
-      time_check_stops d = checks ∙ time_checked k frame y known whole (λ z. d (checks ∙ z))
-
-      pub time_through : r ≡ 0 → (i : ℕ) → i ≡ first_of (time_rows y frame) → i ≡ time_number k frame
-      time_through z i ei = ei ∙ time_rows_lem k frame y known whole (sym checks ∙ z)
+    pub time_through : 0 ≡ whole_number y frame → (i : ℕ) → i ≡ first_of (time_rows y frame) → i ≡ time_number k frame
+    time_through z i ei = ei ∙ time_rows_lem k frame y is.known whole (sym (z ∙ whole_number_lem y frame whole))

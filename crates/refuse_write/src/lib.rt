@@ -1,10 +1,12 @@
 // What the writer is lent: its refusals in their order.
 #![tactic(auto)]
 
-ghost use Rattle.std.specs.Prelude.{◌≡◌};
+ghost use Rattle.std.specs.Prelude.{◌≡◌, IfOk};
+ghost use Rattle.paper.specs.Causes.{number_said};
+ghost use Rattle.layout.specs.Asked.{FrameKnown};
 ghost use Rattle.rules_writes.specs.Write.{contents_of, lengths_fit, write_number};
 
-use paper::System;
+use paper::{Cause, System};
 
 // The lengths are the system's and the count's.
 fn lengths_ok(
@@ -23,8 +25,8 @@ fn lengths_ok(
         & (group.len() == 4)
 }
 
-// What refuses what is lent for a frame of so many bytes: 1, 2, 3, 4, 31, 32, or 0.
-pub fn refusal(
+// What is lent for a frame of so many bytes: 1, 2, 3, 4, 31, 32.
+pub fn refuse(
     system: u32,
     count: u32,
     sound: &[i32],
@@ -32,29 +34,24 @@ pub fn refusal(
     time: &[u8],
     group: &[u8],
     size: usize,
-) -> u32
-    ensures { result ≡ write_number system (contents_of count sound.now macroblocks.now time.now group.now) size }
+) -> Result<System, Cause>
+    ensures said { number_said result ≡ write_number system (contents_of count sound.now macroblocks.now time.now group.now) size }
+    ensures known { IfOk result (λ y. FrameKnown system size y) }
 {
-    let Some(y) = layout::system_of(system) else {
-        return 1;
-    };
-    let whole = size == layout::frame_bytes(y);
+    let y = layout::system_of_frame(system, size)?;
     let counted = layout::is_count(y, count);
     let lengths = lengths_ok(y, count, sound, macroblocks, time, group);
-    if !whole {
-        return 2;
-    }
     if !counted {
-        return 3;
+        return Err(Cause::OutsideSystem);
     }
     if !lengths {
-        return 4;
+        return Err(Cause::LentLength);
     }
     if !sound::all_in_range(sound) {
-        return 31;
+        return Err(Cause::NoSample);
     }
     if !packs::time_taken(y, packs::pack_of(0x13, time)) {
-        return 32;
+        return Err(Cause::TimeBreaksRules);
     }
-    0
+    Ok(y)
 }

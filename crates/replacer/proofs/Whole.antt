@@ -13,6 +13,10 @@ use Rattle.base.proofs.Cases.{by_lt}
 use Rattle.base.proofs.Picks.{pick_true, pick_false, pick_either}
 use Rattle.base.proofs.Puts.{put_run, turns_keep, turns_do, turns_same}
 use Rattle.paper.specs.declared.System.{System}
+use Rattle.paper.specs.declared.Cause.{Cause}
+use Rattle.paper.specs.Causes.{cause_number}
+use Rattle.layout.specs.Asked.{FrameKnown}
+use Rattle.layout.proofs.Saying.{never_zero}
 use Rattle.rules_format.specs.Systems.{half_of, positions_of, system_of}
 use Rattle.rules_format.specs.Samples.{word_for, bytes_of}
 use Rattle.rules_format.specs.Sound.{rank_of, audio_of, word_number, rank_at, first_at, sample_at}
@@ -21,7 +25,7 @@ use Rattle.rules_writes.specs.Written.{sample_word, word_bytes}
 use Rattle.rules_format.proofs.Systems.{half_cases, positions_half, count_turns}
 use Rattle.rules_format.proofs.Sound.{sample_back, rank_below, audio_below, word_below, rank_sample, audio_sample, word_sample, first_below}
 use Rattle.rules_surveys.proofs.Halves.{half_start}
-use Rattle.rules_replaces.proofs.Replace.{Long, Done, put_long, put_does, put_stays, put_keeps, replaced_one, replace_1, taken_takes, takes_above, takes_below, takes_own, takes_few, replace_done}
+use Rattle.rules_replaces.proofs.Replace.{Long, Done, put_long, put_does, put_stays, put_keeps, replaced_one, taken_takes, takes_above, takes_below, takes_own, takes_few, replace_stopped, replace_done}
 use Rattle.rules_writes.proofs.Written.{word_wide}
 use Rattle.sample_words.specs.Words.{words_below}
 use Rattle.sample_words.proofs.Ways.{sample_within}
@@ -189,18 +193,18 @@ module _ (y : System) (i : ℕ) (samples : List ℤ) (f : List ℕ) (asked : Fra
       (λ k apart.
       (all_keep (λ (x : List ℕ). get_or x k 0 ≡ get_or f k 0) (λ u hu x long same. put_stays y (i + 1) c1 c8 samples f asked.whole u (position u hu) x long k (apart u hu) ∙ same) refl).1)
 
--- ---- replace_audio: r is what `replace_number` answers, s what `system_of` does
+-- ---- replace_audio
 
-module _ (k : ℕ) (frame : List ℕ) (c : ℕ) (samples : List ℤ) (r : ℕ) (er : r ≡ replace_number k frame c samples) (z : r ≡ 0) (s : Option System) (es : s ≡ system_of k) where
-  pub no_system : s ≡ None → Replaced k frame c samples r frame
-  no_system e = absurd (omega (arith, er, z, replace_1 k frame c samples (sym es ∙ e)))
+module _ (k : ℕ) (frame : List ℕ) (c : ℕ) (samples : List ℤ) where
+  pub replace_stops : (cause : Cause) → cause_number cause ≡ replace_number k frame c samples → (r : ℕ) → r ≡ cause_number cause → Replaced k frame c samples r frame
+  replace_stops cause e r er = replace_stopped k frame c samples r (er ∙ e) (λ z. never_zero cause (sym er ∙ z))
 
-  module _ (y : System) (e : s ≡ Some y) where
+  module _ (er : 0 ≡ replace_number k frame c samples) (y : System) (is : FrameKnown k (length frame) y) where
     known : system_of k ≡ Some y
-    known = sym es ∙ e
+    known = is.known
 
     takes : Takes y frame c samples
-    takes = taken_takes k frame c samples y known (sym er ∙ z)
+    takes = taken_takes k frame c samples y known (sym er)
 
     pub channel_some : 1 ≤ c
     channel_some = takes_above takes
@@ -215,5 +219,5 @@ module _ (k : ℕ) (frame : List ℕ) (c : ℕ) (samples : List ℤ) (r : ℕ) (
     pub frame_left : (frame' : List ℕ) → frame' ≡ turns (rank_turn y (c - 1) samples) (half_of y) frame → Replaced k frame c samples 0 frame'
     frame_left frame' ef =
         let c_is : c - 1 + 1 ≡ c = omega (arith, takes_above takes) in
-        replace_done k y frame frame' c samples r known er z
+        replace_done k y frame frame' c samples 0 known er refl
         (ef ∙ loops_replace y (c - 1) samples frame frame_asked (takes_few takes) ∙ ap (λ (n : ℕ). replaced y frame n samples) c_is)

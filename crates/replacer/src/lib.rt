@@ -56,12 +56,9 @@ fn replace_channel(frame: &mut [u8], y: System, i: u32, samples: &[i32])
 pub fn replace_audio(system: u32, frame: &mut [u8], audio: u32, samples: &[i32]) -> u32
     ensures { Replaced system frame.old audio samples.now result frame.new }
 {
-    let number = refuse_replace::replace_number(system, frame, audio, samples);
-    if number != 0 {
-        return number;
-    }
-    let Some(y) = layout::system_of(system) else {
-        return number;
+    let y = match refuse_replace::refuse(system, frame, audio, samples) {
+        Ok(y) => y,
+        Err(cause) => return layout::number_of(cause),
     };
     replace_channel(frame, y, audio - 1, samples);
     0

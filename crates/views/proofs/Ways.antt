@@ -1,28 +1,34 @@
--- What a start is, and the ways out of the public calls. s is what the code's `system_of` answers, n the frame's bytes. Assumes nothing.
-use Rattle.std.specs.Prelude.{Option, Some, None}
+-- What a start is, and the ways out of the calls. Assumes nothing.
+use Rattle.std.specs.Prelude.{Some}
 use mathlib.Core.Path.{◌≡◌, refl, sym, ◌∙◌}
 use mathlib.Core.List.{List}
-use mathlib.Core.Bool.{Bool, true, false, not, ◌||◌}
+use mathlib.Core.Bool.{Bool, true, false, ◌||◌}
 use Prim.Native.Nat.{ℕ, ◌+◌, ◌*◌, ◌≤◌, ◌-◌}
 use native.Mathlib.Omega.{arith}
-use lib.Dec.{eqb, leb}
+use lib.Dec.{leb}
 use lib.ListN.{length, take, drop}
-use borrow.Author.Tests.{eqb-true, leb-false, eqb-false, not-true, not-false}
+use borrow.Author.Tests.{leb-false}
 use Rattle.base.proofs.Parts.{range_part}
 use Rattle.base.proofs.Picks.{neither}
+use Rattle.base.specs.Calls.{first_of}
 use Rattle.paper.specs.declared.System.{System}
+use Rattle.paper.specs.declared.Cause.{Cause}
+use Rattle.paper.specs.Causes.{cause_number}
+use Rattle.layout.specs.Asked.{FrameKnown, frame_rows}
+use Rattle.layout.proofs.Saying.{never_zero}
+use Rattle.layout.proofs.Refusing.{frame_stops}
 use Rattle.paper.specs.declared.Place.{Place}
 use Rattle.paper.specs.declared.Part.{Part}
-use Rattle.rules_format.specs.Systems.{sequences_of, system_of}
+use Rattle.rules_format.specs.Systems.{sequences_of}
 use Rattle.rules_format.specs.Blocks.{block_at, no_part}
 use Rattle.rules_format.specs.Faults.{fault_at}
 use Rattle.rules_surveys.specs.Survey.{outside_sequences}
 use Rattle.rules_surveys.specs.View.{view_number, ViewNumbered, Viewed, ViewLies}
 use Rattle.rules_format.proofs.Systems.{sequences_le}
 use Rattle.rules_format.proofs.Blocks.{start_within}
-use Rattle.rules_surveys.proofs.Calls.{inside_means, view_1, view_2, view_3, view_fault, view_lies_stopped, view_lies_found, view_lies_number}
+use Rattle.rules_surveys.proofs.Calls.{inside_means, view_3, view_fault, view_lies_stopped, view_lies_found, view_lies_number}
 use Rattle.rules_surveys.proofs.Calls.{view_lies_within}
-use Rattle.views.specs.Asked.{InFrame, StartIs}
+use Rattle.views.specs.Asked.{InFrame, StartIs, FoundAt}
 
 -- ---- block_start
 
@@ -34,41 +40,32 @@ start_is y h q p n i e =
       small = rw e (omega (arith, start_within y h q p i.channel i.sequence i.place, sequences_le y));
     }
 
--- ---- view_at: r is what is answered
+-- ---- viewed
 
-module _ (k : ℕ) (frame : List ℕ) (h q : ℕ) (p : Place) (s : Option System) (ek : s ≡ system_of k) where
-  pub view_no_system : s ≡ None → (r : Part) → r ≡ no_part 1 → ViewLies k frame h q p r
-  view_no_system e = view_lies_stopped k frame h q p 1 (sym (view_1 k frame h q p (sym ek ∙ e))) (λ z. omega arith)
+module _ (k : ℕ) (frame : List ℕ) (h q : ℕ) (p : Place) where
+  pub view_stops : (cause : Cause) → cause_number cause ≡ first_of (frame_rows k (length frame)) → cause_number cause ≡ view_number k frame h q p
+  unfolding view_number
+  view_stops = frame_stops k (length frame) _
 
-  module _ (y : System) (e : s ≡ Some y) (n : ℕ) (en : n ≡ 48000 * sequences_of y) where
-    known : system_of k ≡ Some y
-    known = sym ek ∙ e
+  module _ (y : System) (is : FrameKnown k (length frame) y) where
+    pub view_within : (at : ℕ) → StartIs y h q p.0 at → at + 80 ≤ length frame
+    view_within at st = omega (arith, st.within, is.whole)
 
-    pub view_wrong_length : not (eqb (length frame) n) ≡ true → (r : Part) → r ≡ no_part 2 → ViewLies k frame h q p r
-    view_wrong_length d =
-        view_lies_stopped k frame h q p 2 (sym (view_2 k frame h q p y known (λ z. eqb-false _ _ (not-true _ d) (z ∙ sym en)))) (λ z. omega arith)
+    module _ (o : Bool) (eo : o ≡ outside_sequences (Some y) h q) where
+      pub view_outside : (o || leb 150 p.0) ≡ true → 3 ≡ view_number k frame h q p
+      view_outside t = sym (view_3 k frame h q p y is.known is.whole (rw eo at t))
 
-    module _ (el : not (eqb (length frame) n) ≡ false) where
-      whole : length frame ≡ 48000 * sequences_of y
-      whole = eqb-true _ _ (not-false _ el) ∙ en
+      module _ (f : (o || leb 150 p.0) ≡ false) (at : ℕ) (st : StartIs y h q p.0 at) where
+        pub view_faulty : (fault : ℕ) → fault ≡ fault_at (take (at + 80 - at) (drop at frame)) h q p.0 → fault ≡ view_number k frame h q p
+        unfolding block_at
+        view_faulty fault ef = ef ∙ rw (range_part at 80 frame, st.is) refl ∙ sym (view_fault k frame h q p y is.known is.whole (rw eo at f))
 
-      pub view_within : (at : ℕ) → StartIs y h q p.0 at → at + 80 ≤ length frame
-      view_within at st = omega (arith, st.within, whole)
-
-      module _ (o : Bool) (eo : o ≡ outside_sequences (Some y) h q) where
-        pub view_outside : (o || leb 150 p.0) ≡ true → (r : Part) → r ≡ no_part 3 → ViewLies k frame h q p r
-        view_outside t = view_lies_stopped k frame h q p 3 (sym (view_3 k frame h q p y known whole (rw eo at t))) (λ z. omega arith)
-
-        module _ (f : (o || leb 150 p.0) ≡ false) (at fault said : ℕ) (st : StartIs y h q p.0 at) (es : said ≡ fault_at (take (at + 80 - at) (drop at frame)) h q p.0) (ef : fault ≡ said) where
-          number : fault ≡ view_number k frame h q p
-          unfolding block_at
-          number = ef ∙ es ∙ rw (range_part at 80 frame, st.is) refl ∙ sym (view_fault k frame h q p y known whole (rw eo at f))
-
-          pub view_faulty : (fault ≡ 0 → ⊥) → (r : Part) → r ≡ no_part fault → ViewLies k frame h q p r
-          view_faulty = view_lies_stopped k frame h q p fault number
-
-          pub view_found : fault ≡ 0 → ViewLies k frame h q p (record { number = 0; start = at; length = 80 })
-          view_found z = rw st.is (view_lies_found k frame h q p y known (sym number ∙ z))
+        pub view_found : 0 ≡ fault_at (take (at + 80 - at) (drop at frame)) h q p.0 → FoundAt k frame h q p at
+        view_found ef =
+            record {
+              lies = rw st.is (view_lies_found k frame h q p y is.known (sym (view_faulty 0 ef)));
+              small = st.small;
+            }
 
 -- a place that is not outside is in the frame
 pub view_in : (y : System) (h q : ℕ) (p : Place) (o : Bool) → o ≡ outside_sequences (Some y) h q → (o || leb 150 p.0) ≡ false → InFrame y h q p.0
@@ -76,6 +73,11 @@ view_in y h q p o eo f =
     let both = neither o (leb 150 p.0) f in
     let i = inside_means y h q (sym eo ∙ both.0) in
     record { channel = i.0; sequence = i.1; place = leb-false _ _ both.1 }
+
+-- ---- view_at
+
+pub view_refused : (k : ℕ) (frame : List ℕ) (h q : ℕ) (p : Place) (cause : Cause) → cause_number cause ≡ view_number k frame h q p → (r : Part) → r ≡ no_part (cause_number cause) → ViewLies k frame h q p r
+view_refused k frame h q p cause e = view_lies_stopped k frame h q p (cause_number cause) e (never_zero cause)
 
 -- ---- view_number and view
 

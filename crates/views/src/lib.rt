@@ -1,11 +1,13 @@
 // The view of one block: its number by one call, its bytes as a part of the frame by another, or where that part lies.
 #![tactic(auto)]
 
-ghost use Rattle.rules_surveys.specs.View.{ViewLies, ViewNumbered, Viewed};
-ghost use Rattle.views.specs.Asked.{InFrame, StartIs};
+ghost use Rattle.std.specs.Prelude.{◌≡◌, IfOk};
+ghost use Rattle.paper.specs.Causes.{number_said};
+ghost use Rattle.rules_surveys.specs.View.{ViewLies, ViewNumbered, Viewed, view_number};
+ghost use Rattle.views.specs.Asked.{FoundAt, InFrame, StartIs};
 
 use layout::{BLOCK, PLACES};
-use paper::{Part, Place, System};
+use paper::{Cause, Part, Place, System};
 
 // Where a block starts.
 fn block_start(y: System, h: u32, q: u32, p: Place) -> usize
@@ -17,32 +19,39 @@ fn block_start(y: System, h: u32, q: u32, p: Place) -> usize
     (((n * h + q) * PLACES + place) as usize) * BLOCK
 }
 
+// Where the block starts whose view is not refused.
+fn viewed(
+    system: u32,
+    frame: &[u8],
+    channel: u32,
+    sequence: u32,
+    place: Place,
+) -> Result<usize, Cause>
+    ensures said { number_said result ≡ view_number system frame.now channel sequence place }
+    ensures lies { IfOk result (λ at. FoundAt system frame.now channel sequence place at) }
+{
+    let y = layout::system_of_frame(system, frame.len())?;
+    let p = place.0;
+    let out = faults::outside(y, channel, sequence) | (PLACES <= p);
+    if out {
+        return Err(Cause::OutsideSystem);
+    }
+    let at = block_start(y, channel, sequence, place);
+    faults::fault_at(&frame[at..at + BLOCK], channel, sequence, place)?;
+    Ok(at)
+}
+
 // Where the view of a block lies: its first byte and its length, 80. Refusals: 1, 2, 3 and the block's own 11 to 15.
 pub fn view_at(system: u32, frame: &[u8], channel: u32, sequence: u32, place: Place) -> Part
     ensures { ViewLies system frame.now channel sequence place result }
 {
-    let Some(y) = layout::system_of(system) else {
-        return layout::no_part(1);
-    };
-    let p = place.0;
-    let misfit = frame.len() != layout::frame_bytes(y);
-    let out = faults::outside(y, channel, sequence) | (PLACES <= p);
-    if misfit {
-        return layout::no_part(2);
-    }
-    if out {
-        return layout::no_part(3);
-    }
-    let at = block_start(y, channel, sequence, place);
-    let said = faults::fault_at(&frame[at..at + BLOCK], channel, sequence, place);
-    let fault = layout::number(said);
-    if fault != 0 {
-        return layout::no_part(fault);
-    }
-    Part {
-        number: 0,
-        start: at as u32,
-        length: BLOCK as u32,
+    match viewed(system, frame, channel, sequence, place) {
+        Ok(at) => Part {
+            number: 0,
+            start: at as u32,
+            length: BLOCK as u32,
+        },
+        Err(cause) => layout::no_part(cause),
     }
 }
 

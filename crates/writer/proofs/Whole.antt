@@ -21,6 +21,10 @@ use Rattle.base.proofs.Runs.{end_within, run_same, run_split, run_runs, length_r
 use Rattle.base.proofs.Filling.{Filled, filled_none, filled_next, filled_end}
 use Rattle.base.proofs.Parts.{length_part, range_part, none_left}
 use Rattle.paper.specs.declared.System.{System}
+use Rattle.paper.specs.declared.Cause.{Cause}
+use Rattle.paper.specs.Causes.{cause_number}
+use Rattle.layout.specs.Asked.{FrameKnown}
+use Rattle.layout.proofs.Saying.{never_zero}
 use Rattle.paper.specs.declared.Section.{Section}
 use Rattle.paper.specs.declared.Section.TheVariants.{Header, Subcode, Vaux, Audio, Video}
 use Rattle.paper.specs.declared.Place.{Place}
@@ -429,10 +433,10 @@ module _ (y : System) (h n : ℕ) (en : n ≡ sequences_of y) where
 -- ---- the call
 
 -- what is in order has the lengths that the writers ask
-module _ (k n : ℕ) (y : System) (r : Option System) (count : ℕ) (sound : List ℤ) (macroblocks time group frame : List ℕ) (er : r ≡ system_of k) (ey : r ≡ Some y)
-    (en : n ≡ write_number k (contents_of count sound macroblocks time group) (length frame)) (z : n ≡ 0) where
+module _ (k : ℕ) (y : System) (count : ℕ) (sound : List ℤ) (macroblocks time group frame : List ℕ) (is : FrameKnown k (length frame) y)
+    (en : 0 ≡ write_number k (contents_of count sound macroblocks time group) (length frame)) where
   takes : Takes y (contents_of count sound macroblocks time group) (length frame)
-  takes = taken_takes k (contents_of count sound macroblocks time group) (length frame) y (sym er ∙ ey) (sym en ∙ z)
+  takes = taken_takes k (contents_of count sound macroblocks time group) (length frame) y is.known (sym en)
 
   pub frame_asked : length frame ≡ 48000 * sequences_of y
   frame_asked = takes.frame
@@ -447,15 +451,10 @@ module _ (k n : ℕ) (y : System) (r : Option System) (count : ℕ) (sound : Lis
   pictures_asked = takes.pictures
 
 -- a refusal, as the call leaves it
-pub number_stops : (k n : ℕ) (l : Contents) (frame : List ℕ) → n ≡ write_number k l (length frame) → 0 < n → Wrote k l frame n frame
-number_stops k n l frame en some = write_stopped k l frame n en (λ z. omega arith)
+pub write_stops : (k : ℕ) (l : Contents) (frame : List ℕ) (cause : Cause) → cause_number cause ≡ write_number k l (length frame) → (n : ℕ) → n ≡ cause_number cause → Wrote k l frame n frame
+write_stops k l frame cause e n en = write_stopped k l frame n (en ∙ e) (λ z. never_zero cause (sym en ∙ z))
 
-pub no_system : (k n : ℕ) (l : Contents) (frame : List ℕ) (r : Option System) → r ≡ system_of k → r ≡ None → n ≡ write_number k l (length frame) → Wrote k l frame n frame
-no_system k n l frame r er e en =
-    let one : 1 ≡ write_number k l (length frame) = write_1 k l (length frame) (sym er ∙ e) in
-    number_stops k n l frame en (omega arith)
-
-pub frame_left : (k n : ℕ) (y : System) (r : Option System) (l : Contents) (frame frame' : List ℕ) (repeated : Repeated) → r ≡ system_of k → r ≡ Some y → n ≡ write_number k l (length frame) → n ≡ 0
+pub frame_left : (k : ℕ) (y : System) (l : Contents) (frame frame' : List ℕ) (repeated : Repeated) → FrameKnown k (length frame) y → 0 ≡ write_number k l (length frame)
     → repeated ≡ repeated_of y l.time_code l.binary_group → frame' ≡ run (written_channel y (material_of repeated l.count l.sound l.macroblocks)) 4 → Wrote k l frame 0 frame'
 unfolding written_frame
-frame_left k n y r l frame frame' repeated er ey en z ep e = write_done k y l frame frame' n (sym er ∙ ey) en z (e ∙ rw ep refl)
+frame_left k y l frame frame' repeated is en ep e = write_done k y l frame frame' 0 is.known en refl (e ∙ rw ep refl)

@@ -16,20 +16,18 @@ pub fn write_frame(
 ) -> u32
     ensures { Wrote system (contents_of count sound.now macroblocks.now time_code.now binary_group.now) frame.old result frame.new }
 {
-    let number = refuse_write::refusal(
+    let size = frame.len();
+    let y = match refuse_write::refuse(
         system,
         count,
         sound,
         macroblocks,
         time_code,
         binary_group,
-        frame.len(),
-    );
-    if number != 0 {
-        return number;
-    }
-    let Some(y) = layout::system_of(system) else {
-        return number;
+        size,
+    ) {
+        Ok(y) => y,
+        Err(cause) => return layout::number_of(cause),
     };
     let material = Material {
         system: y,

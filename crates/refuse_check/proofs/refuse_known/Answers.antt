@@ -1,10 +1,11 @@
--- `refuse_check::checked` meets its contract: one lemma for each row. Assumes nothing.
+-- `refuse_check::refuse_known` meets its contract: one lemma for each row. Assumes nothing.
 use borrow.Author.Rules.{rules}
+use Rattle.layout.proofs.Saying.{never_zero, passed_on}
 use Rattle.refuse_check.proofs.Ways.{checked_fault, checked_21, checked_22, checked_0}
-use Rattle.refuse_check.proofs.checked.Goals as goal
+use Rattle.refuse_check.proofs.refuse_known.Goals as goal
 
-pub returns-then-fault-ne0 : goal.returns-then-fault-ne0
-returns-then-fault-ne0 c = search (checked_fault, rules)
+pub returns-in_err-first_fault : goal.returns-in_err-first_fault
+returns-in_err-first_fault c = passed_on _ _ c.from_residual.ensures.1 (checked_fault _ _ _ c.in_err-first_fault.ensures (never_zero _))
 
 pub returns-then-not-every_sequence : goal.returns-then-not-every_sequence
 returns-then-not-every_sequence c = search (checked_21, rules)

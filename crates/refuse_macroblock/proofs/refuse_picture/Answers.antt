@@ -1,7 +1,7 @@
--- `refuse_macroblock::picture_number` meets its contract: by its one row. Assumes nothing.
+-- `refuse_macroblock::refuse_picture` meets its contract: by its one row. Assumes nothing.
 use borrow.Author.Rules.{rules}
 use Rattle.refuse_macroblock.proofs.Ways.{picture_marked, picture_passes}
-use Rattle.refuse_macroblock.proofs.picture_number.Goals as goal
+use Rattle.refuse_macroblock.proofs.refuse_picture.Goals as goal
 
 pub returns-then-not-every_sequence : goal.returns-then-not-every_sequence
 returns-then-not-every_sequence c = search (picture_marked, rules)

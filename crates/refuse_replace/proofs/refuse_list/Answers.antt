@@ -1,7 +1,7 @@
--- `refuse_replace::list_number` meets its contract: one lemma for each row. Assumes nothing.
+-- `refuse_replace::refuse_list` meets its contract: one lemma for each row. Assumes nothing.
 use borrow.Author.Rules.{rules}
 use Rattle.refuse_replace.proofs.Ways.{list_29, list_31, list_33, list_0}
-use Rattle.refuse_replace.proofs.list_number.Goals as goal
+use Rattle.refuse_replace.proofs.refuse_list.Goals as goal
 
 pub returns-then-samples-count : goal.returns-then-samples-count
 returns-then-samples-count c = search (list_29, rules)

@@ -1,7 +1,7 @@
--- `refuse_time::clock_number` meets its contract: one lemma for each row. Assumes nothing.
+-- `refuse_time::refuse_clock` meets its contract: one lemma for each row. Assumes nothing.
 use borrow.Author.Rules.{rules}
 use Rattle.refuse_time.proofs.Ways.{clock_23, clock_26, clock_27, clock_0}
-use Rattle.refuse_time.proofs.clock_number.Goals as goal
+use Rattle.refuse_time.proofs.refuse_clock.Goals as goal
 
 pub returns-then-not-every_sequence : goal.returns-then-not-every_sequence
 returns-then-not-every_sequence c = search (clock_23, rules)

@@ -1,7 +1,7 @@
--- `refuse_audio::sound_number` meets its contract: one lemma for each row. Assumes nothing.
+-- `refuse_audio::refuse_sound` meets its contract: one lemma for each row. Assumes nothing.
 use borrow.Author.Rules.{rules}
 use Rattle.refuse_audio.proofs.Ways.{sound_23, sound_24, sound_25, sound_0}
-use Rattle.refuse_audio.proofs.sound_number.Goals as goal
+use Rattle.refuse_audio.proofs.refuse_sound.Goals as goal
 
 pub returns-then-not-every_sequence : goal.returns-then-not-every_sequence
 returns-then-not-every_sequence c = search (sound_23, rules)
