@@ -1,5 +1,5 @@
 -- The ways out of the public calls. Assumes nothing.
-use Rattle.std.specs.Prelude.{Option, Some, None}
+use Rattle.std.specs.Prelude.{Some, None}
 use mathlib.Core.Path.{◌≡◌, refl, sym, ◌∙◌}
 use mathlib.Core.List.{List}
 use mathlib.Core.Bool.{Bool, true, false, not}
@@ -19,11 +19,12 @@ use Rattle.layout.proofs.Saying.{never_zero}
 use Rattle.rules_format.specs.Systems.{system_of}
 use Rattle.rules_surveys.specs.FaultLists.{frame_faults, faults_in}
 use Rattle.rules_surveys.specs.Noting.{Noted}
-use Rattle.rules_surveys.specs.Survey.{outside_sequences, refusal, survey_number, Surveyed, FrameSurveyed, SequenceSurveyed}
+use Rattle.rules_surveys.specs.Survey.{outside_sequences, refusal, survey_number, sequence_number, Surveyed, FrameSurveyed, SequenceSurveyed}
 use Rattle.rules_surveys.proofs.Calls.{inside_means, survey_done, survey_stopped, survey_0, sequence_0, sequence_1, sequence_3}
 use Rattle.rules_surveys.proofs.Calls.{sequence_4}
 use Rattle.fault_list.specs.Asked.{tallied, next_faults}
 use Rattle.fault_list.proofs.Next.{next_inside}
+use Rattle.surveys.specs.Asked.{SequenceKnown}
 
 -- ---- survey
 
@@ -43,27 +44,33 @@ module _ (k : ℕ) (frame list : List ℕ) where
       let all : frame_faults y frame ≡ faults_in (system_of k) frame = rw is.known refl in
       rw er (survey_done _ _ list list' t _ (survey_0 k (length frame) y is.known is.whole) (rw all at nt) refl)
 
-module _ (k : ℕ) (s : Option System) (es : s ≡ system_of k) where
-  known_as : (t : Option System) → s ≡ t → system_of k ≡ t
-  known_as t e = sym es ∙ e
+-- ---- survey_sequence
 
-  -- ---- survey_sequence: s is what the code's `system_of` answers, o its `out`
+module _ (k h q : ℕ) where
+  pub sequence_none : (bytes : ℕ) → system_of k ≡ None → 1 ≡ sequence_number k h q bytes
+  sequence_none bytes e = sym (sequence_1 k h q bytes e)
 
-  module _ (h q : ℕ) (part list : List ℕ) (r : Survey) where
-    pub sequence_no_system : s ≡ None → r ≡ refusal 1 → SequenceSurveyed k h q part list r list
-    sequence_no_system e er = survey_stopped _ _ list _ r (sequence_1 k h q (length part) (known_as None e)) er
+  module _ (bytes : ℕ) (y : System) (e : system_of k ≡ Some y) (o : Bool) (eo : o ≡ outside_sequences (Some y) h q) where
+    pub sequence_outside : o ≡ true → 3 ≡ sequence_number k h q bytes
+    sequence_outside t = sym (sequence_3 k h q bytes y e (sym eo ∙ t))
 
-    module _ (y : System) (e : s ≡ Some y) (o : Bool) (eo : o ≡ outside_sequences (Some y) h q) where
-      pub sequence_outside : o ≡ true → r ≡ refusal 3 → SequenceSurveyed k h q part list r list
-      sequence_outside t er = survey_stopped _ _ list _ r (sequence_3 k h q (length part) y (known_as (Some y) e) (sym eo ∙ t)) er
+    module _ (f : o ≡ false) where
+      pub sequence_wrong_length : (bytes ≡ 12000 → ⊥) → 4 ≡ sequence_number k h q bytes
+      sequence_wrong_length d = sym (sequence_4 k h q bytes y e (sym eo ∙ f) d)
 
-      module _ (f : o ≡ false) where
-        pub sequence_wrong_length : not (eqb (length part) 12000) ≡ true → r ≡ refusal 4 → SequenceSurveyed k h q part list r list
-        sequence_wrong_length d er = survey_stopped _ _ list _ r (sequence_4 k h q (length part) y (known_as (Some y) e) (sym eo ∙ f) (eqb-false _ _ (not-true _ d))) er
+      pub sequence_said : bytes ≡ 12000 → 0 ≡ sequence_number k h q bytes
+      sequence_said w = sym (sequence_0 k h q bytes y e (sym eo ∙ f) w)
 
-        pub sequence_surveyed : (list' : List ℕ) (t : ℕ) → not (eqb (length part) 12000) ≡ false → Noted list 0 (next_faults y h q part 0) list' t → r ≡ tallied t (length list)
-            → SequenceSurveyed k h q part list r list'
-        sequence_surveyed list' t el nt er =
-            let whole = eqb-true _ _ (not-false _ el) in
-            let i = inside_means y h q (sym eo ∙ f) in
-            rw er (survey_done _ _ list list' t _ (sequence_0 k h q (length part) y (known_as (Some y) e) (sym eo ∙ f) whole) (rw (next_inside y h q part 0 i.0 i.1 whole (omega arith)) at nt) refl)
+      pub sequence_known : bytes ≡ 12000 → SequenceKnown k h q bytes y
+      sequence_known w = record { known = e; inside = sym eo ∙ f; whole = w }
+
+  module _ (part list : List ℕ) where
+    pub sequence_stopped : (cause : Cause) → cause_number cause ≡ sequence_number k h q (length part) → (n : ℕ) → n ≡ cause_number cause → (r : Survey) → r ≡ refusal n
+        → SequenceSurveyed k h q part list r list
+    sequence_stopped cause e n en r er = refused_by _ _ list n r (sym (en ∙ e)) (λ z. never_zero cause (sym en ∙ z)) er
+
+    pub sequence_surveyed : (y : System) → SequenceKnown k h q (length part) y → (list' : List ℕ) (t : ℕ) (r : Survey) → Noted list 0 (next_faults y h q part 0) list' t → r ≡ tallied t (length list)
+        → SequenceSurveyed k h q part list r list'
+    sequence_surveyed y is list' t r nt er =
+        let i = inside_means y h q is.inside in
+        rw er (survey_done _ _ list list' t _ (sequence_0 k h q (length part) y is.known is.inside is.whole) (rw (next_inside y h q part 0 i.0 i.1 is.whole (omega arith)) at nt) refl)
