@@ -1,73 +1,88 @@
--- The ways out of the public calls. s is what the code's `system_of` answers, n the frame's bytes. Assumes nothing.
-use Rattle.std.specs.Prelude.{Option, Some, None}
+-- The ways out of the public calls. Assumes nothing.
+use Rattle.std.specs.Prelude.{Some, None}
 use mathlib.Core.Path.{◌≡◌, refl, sym, ap, ◌∙◌}
 use mathlib.Core.List.{List}
 use mathlib.Core.Bool.{Bool, true, false, not}
-use Prim.Native.Nat.{ℕ, ◌*◌}
+use Prim.Native.Nat.{ℕ, zero, suc}
 use native.Mathlib.Omega.{arith}
 use lib.Dec.{eqb}
 use lib.ListN.{length}
 use borrow.Author.Tests.{eqb-true, eqb-false, not-true, not-false}
 use Rattle.paper.specs.declared.System.{System}
 use Rattle.paper.specs.declared.Survey.{Survey}
-use Rattle.rules_format.specs.Systems.{sequences_of, system_of}
+use Rattle.paper.specs.declared.Fault.{Fault}
+use Rattle.paper.specs.declared.Cause.{Cause}
+use Rattle.paper.specs.Causes.{cause_number}
+use Rattle.base.specs.Calls.{first_of}
+use Rattle.layout.specs.Asked.{FrameKnown, frame_rows}
+use Rattle.layout.proofs.Saying.{never_zero}
+use Rattle.rules_format.specs.Systems.{system_of}
 use Rattle.rules_surveys.specs.FaultLists.{frame_faults, faults_in}
 use Rattle.rules_surveys.specs.Noting.{Noted}
-use Rattle.rules_surveys.specs.Survey.{outside_sequences, refusal, FrameSurveyed, SequenceSurveyed}
-use Rattle.rules_surveys.proofs.Calls.{inside_means, survey_done, survey_stopped, survey_0, survey_1, survey_2, sequence_0, sequence_1, sequence_3}
+use Rattle.rules_surveys.specs.Survey.{outside_sequences, refusal, survey_number, sequence_number, Surveyed, FrameSurveyed, SequenceSurveyed}
+use Rattle.rules_surveys.proofs.Calls.{inside_means, survey_done, survey_stopped, survey_0, sequence_0, sequence_1, sequence_3}
 use Rattle.rules_surveys.proofs.Calls.{sequence_4}
 use Rattle.fault_list.specs.declared.list.FaultList.{FaultList}
 use Rattle.fault_list.specs.Asked.{tallied, next_faults}
 use Rattle.fault_list.specs.Listed.{NotedIn}
 use Rattle.fault_list.proofs.Listing.{in_noted, in_size}
 use Rattle.fault_list.proofs.Next.{next_inside}
+use Rattle.surveys.specs.Asked.{SequenceKnown}
 
-module _ (k : ℕ) (s : Option System) (es : s ≡ system_of k) where
-  known_as : (t : Option System) → s ≡ t → system_of k ≡ t
-  known_as t e = sym es ∙ e
+-- ---- survey
 
-  -- ---- survey
+-- a refusal, by its number
+refused_by : (number : ℕ) (fs : List Fault) (list : List ℕ) (n : ℕ) (r : Survey) → number ≡ n → (n ≡ 0 → ⊥) → r ≡ refusal n → Surveyed number fs list r list
+refused_by number fs list zero r e d er = absurd (d refl)
+refused_by number fs list (suc n) r e d er = survey_stopped number fs list n r e er
 
-  module _ (frame list : List ℕ) (r : Survey) where
-    pub frame_no_system : s ≡ None → r ≡ refusal 1 → FrameSurveyed k frame list r list
-    frame_no_system e er = survey_stopped _ _ list _ r (survey_1 k (length frame) (known_as None e)) er
+module _ (k : ℕ) (frame list : List ℕ) where
+  pub frame_stopped : (cause : Cause) → cause_number cause ≡ first_of (frame_rows k (length frame)) → (n : ℕ) → n ≡ cause_number cause → (r : Survey) → r ≡ refusal n → FrameSurveyed k frame list r list
+  unfolding survey_number
+  frame_stopped cause e n en r er = refused_by _ _ list n r (sym (en ∙ e)) (λ z. never_zero cause (sym en ∙ z)) er
 
-    pub frame_wrong_length : (y : System) (n : ℕ) → s ≡ Some y → n ≡ 48000 * sequences_of y → (length frame ≡ n → ⊥) → r ≡ refusal 2 → FrameSurveyed k frame list r list
-    frame_wrong_length y n e en d er = survey_stopped _ _ list _ r (survey_2 k (length frame) y (known_as (Some y) e) (λ z. d (z ∙ sym en))) er
-
-  pub frame_surveyed : (frame list list' : List ℕ) (y : System) (n : ℕ) (old new : FaultList) (r : Survey) → s ≡ Some y → n ≡ 48000 * sequences_of y → length frame ≡ n
+  pub frame_surveyed : (list' : List ℕ) (y : System) (old new : FaultList) (r : Survey) → FrameKnown k (length frame) y
       → NotedIn old (frame_faults y frame) new → old.numbers.now ≡ list → old.total ≡ 0
       → (length list' ≡ length list) × (old.numbers.ghost_name ≡ new.numbers.ghost_name → list' ≡ new.numbers.now)
       → r ≡ tallied new.total (length new.numbers.now) → FrameSurveyed k frame list r list'
-  frame_surveyed frame list list' y n old new r e en el noted eo et back er' =
+  frame_surveyed list' y old new r is noted eo et back er' =
       let t = new.total in
       let nt : Noted list 0 (frame_faults y frame) list' t = rw et at (in_noted old new list list' noted eo back) in
       let er : r ≡ tallied t (length list) = er' ∙ ap (tallied t) (in_size old new list list' noted eo back) in
-      let known = known_as (Some y) e in
-      let all : frame_faults y frame ≡ faults_in (system_of k) frame = rw known refl in
-      rw er (survey_done _ _ list list' t _ (survey_0 k (length frame) y known (el ∙ en)) (rw all at nt) refl)
+      let all : frame_faults y frame ≡ faults_in (system_of k) frame = rw is.known refl in
+      rw er (survey_done _ _ list list' t _ (survey_0 k (length frame) y is.known is.whole) (rw all at nt) refl)
 
-  -- ---- survey_sequence: o is the code's `out`
+-- ---- survey_sequence
 
-  module _ (h q : ℕ) (part list : List ℕ) (r : Survey) where
-    pub sequence_no_system : s ≡ None → r ≡ refusal 1 → SequenceSurveyed k h q part list r list
-    sequence_no_system e er = survey_stopped _ _ list _ r (sequence_1 k h q (length part) (known_as None e)) er
+module _ (k h q : ℕ) where
+  pub sequence_none : (bytes : ℕ) → system_of k ≡ None → 1 ≡ sequence_number k h q bytes
+  sequence_none bytes e = sym (sequence_1 k h q bytes e)
 
-    module _ (y : System) (e : s ≡ Some y) (o : Bool) (eo : o ≡ outside_sequences (Some y) h q) where
-      pub sequence_outside : o ≡ true → r ≡ refusal 3 → SequenceSurveyed k h q part list r list
-      sequence_outside t er = survey_stopped _ _ list _ r (sequence_3 k h q (length part) y (known_as (Some y) e) (sym eo ∙ t)) er
+  module _ (bytes : ℕ) (y : System) (e : system_of k ≡ Some y) (o : Bool) (eo : o ≡ outside_sequences (Some y) h q) where
+    pub sequence_outside : o ≡ true → 3 ≡ sequence_number k h q bytes
+    sequence_outside t = sym (sequence_3 k h q bytes y e (sym eo ∙ t))
 
-      module _ (f : o ≡ false) where
-        pub sequence_wrong_length : not (eqb (length part) 12000) ≡ true → r ≡ refusal 4 → SequenceSurveyed k h q part list r list
-        sequence_wrong_length d er = survey_stopped _ _ list _ r (sequence_4 k h q (length part) y (known_as (Some y) e) (sym eo ∙ f) (eqb-false _ _ (not-true _ d))) er
+    module _ (f : o ≡ false) where
+      pub sequence_wrong_length : (bytes ≡ 12000 → ⊥) → 4 ≡ sequence_number k h q bytes
+      sequence_wrong_length d = sym (sequence_4 k h q bytes y e (sym eo ∙ f) d)
 
-        pub sequence_surveyed : (list' : List ℕ) (old new : FaultList) → not (eqb (length part) 12000) ≡ false → NotedIn old (next_faults y h q part 0) new
-            → old.numbers.now ≡ list → old.total ≡ 0 → (length list' ≡ length list) × (old.numbers.ghost_name ≡ new.numbers.ghost_name → list' ≡ new.numbers.now)
-            → r ≡ tallied new.total (length new.numbers.now) → SequenceSurveyed k h q part list r list'
-        sequence_surveyed list' old new el noted ea et back er' =
-            let t = new.total in
-            let nt : Noted list 0 (next_faults y h q part 0) list' t = rw et at (in_noted old new list list' noted ea back) in
-            let er : r ≡ tallied t (length list) = er' ∙ ap (tallied t) (in_size old new list list' noted ea back) in
-            let whole = eqb-true _ _ (not-false _ el) in
-            let i = inside_means y h q (sym eo ∙ f) in
-            rw er (survey_done _ _ list list' t _ (sequence_0 k h q (length part) y (known_as (Some y) e) (sym eo ∙ f) whole) (rw (next_inside y h q part 0 i.0 i.1 whole (omega arith)) at nt) refl)
+      pub sequence_said : bytes ≡ 12000 → 0 ≡ sequence_number k h q bytes
+      sequence_said w = sym (sequence_0 k h q bytes y e (sym eo ∙ f) w)
+
+      pub sequence_known : bytes ≡ 12000 → SequenceKnown k h q bytes y
+      sequence_known w = record { known = e; inside = sym eo ∙ f; whole = w }
+
+  module _ (part list : List ℕ) where
+    pub sequence_stopped : (cause : Cause) → cause_number cause ≡ sequence_number k h q (length part) → (n : ℕ) → n ≡ cause_number cause → (r : Survey) → r ≡ refusal n
+        → SequenceSurveyed k h q part list r list
+    sequence_stopped cause e n en r er = refused_by _ _ list n r (sym (en ∙ e)) (λ z. never_zero cause (sym en ∙ z)) er
+
+    pub sequence_surveyed : (y : System) → SequenceKnown k h q (length part) y → (list' : List ℕ) (old new : FaultList) (r : Survey) → NotedIn old (next_faults y h q part 0) new
+        → old.numbers.now ≡ list → old.total ≡ 0 → (length list' ≡ length list) × (old.numbers.ghost_name ≡ new.numbers.ghost_name → list' ≡ new.numbers.now)
+        → r ≡ tallied new.total (length new.numbers.now) → SequenceSurveyed k h q part list r list'
+    sequence_surveyed y is list' old new r noted ea et back er' =
+        let t = new.total in
+        let nt : Noted list 0 (next_faults y h q part 0) list' t = rw et at (in_noted old new list list' noted ea back) in
+        let er : r ≡ tallied t (length list) = er' ∙ ap (tallied t) (in_size old new list list' noted ea back) in
+        let i = inside_means y h q is.inside in
+        rw er (survey_done _ _ list list' t _ (sequence_0 k h q (length part) y is.known is.inside is.whole) (rw (next_inside y h q part 0 i.0 i.1 is.whole (omega arith)) at nt) refl)

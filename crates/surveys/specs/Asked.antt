@@ -1,7 +1,8 @@
 -- What the private functions ask.
-use Rattle.std.specs.Prelude.{◌≡◌, List, ℕ, ◌*◌, ◌<◌, length}
+use Rattle.std.specs.Prelude.{◌≡◌, false, List, ℕ, ◌*◌, ◌<◌, length, Some}
 use Rattle.paper.specs.declared.System.{System}
-use Rattle.rules_format.specs.Systems.{sequences_of}
+use Rattle.rules_format.specs.Systems.{sequences_of, system_of}
+use Rattle.rules_surveys.specs.Survey.{outside_sequences}
 
 -- sequence q of DIF channel h
 pub record PartAsked (frame : List ℕ) (y : System) (h q : ℕ) : Type 0 where
@@ -19,3 +20,9 @@ pub record ChannelAsked (frame : List ℕ) (y : System) (h t : ℕ) : Type 0 whe
 pub record FrameAsked (frame : List ℕ) (y : System) (t : ℕ) : Type 0 where
   pub whole : length frame ≡ 48000 * sequences_of y
   pub first : t ≡ 0
+
+-- sequence q of DIF channel h is one of system k's, which is y, and has so many bytes
+pub record SequenceKnown (k h q bytes : ℕ) (y : System) : Type 0 where
+  pub known : system_of k ≡ Some y
+  pub inside : outside_sequences (Some y) h q ≡ false
+  pub whole : bytes ≡ 12000

@@ -43,12 +43,10 @@ fn survey_all(frame: &[u8], y: System, list: &mut FaultList)
 pub fn survey(system: u32, frame: &[u8], list: &mut [u32]) -> Survey
     ensures { FrameSurveyed system frame.now list.old result list.new }
 {
-    let Some(y) = layout::system_of(system) else {
-        return fault_list::refused(1);
+    let y = match layout::system_of_frame(system, frame.len()) {
+        Ok(y) => y,
+        Err(cause) => return fault_list::refused(layout::number_of(cause)),
     };
-    if frame.len() != layout::frame_bytes(y) {
-        return fault_list::refused(2);
-    }
     let mut found = FaultList {
         numbers: list,
         total: 0,

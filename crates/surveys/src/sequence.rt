@@ -1,9 +1,28 @@
 // The survey of one sequence.
-ghost use Rattle.rules_surveys.specs.Survey.{SequenceSurveyed};
+ghost use Rattle.std.specs.Prelude.{◌≡◌, IfOk};
+ghost use Rattle.paper.specs.Causes.{number_said};
+ghost use Rattle.rules_surveys.specs.Survey.{SequenceSurveyed, sequence_number};
+ghost use Rattle.surveys.specs.Asked.{SequenceKnown};
 
 use fault_list::FaultList;
 use layout::SEQUENCE;
-use paper::Survey;
+use paper::{Cause, Survey, System};
+
+// What the survey of a sequence of so many bytes is refused for: 1, 3, 4.
+fn refuse(system: u32, channel: u32, sequence: u32, bytes: usize) -> Result<System, Cause>
+    ensures said { number_said result ≡ sequence_number system channel sequence bytes }
+    ensures known { IfOk result (λ y. SequenceKnown system channel sequence bytes y) }
+{
+    let y = layout::system_of(system).ok_or(Cause::NoSystem)?;
+    let out = faults::outside(y, channel, sequence);
+    if out {
+        return Err(Cause::OutsideSystem);
+    }
+    if bytes != SEQUENCE {
+        return Err(Cause::LentLength);
+    }
+    Ok(y)
+}
 
 // The survey of one sequence. Refusals: 1, 3, 4.
 pub fn survey_sequence(
@@ -15,17 +34,10 @@ pub fn survey_sequence(
 ) -> Survey
     ensures { SequenceSurveyed system channel sequence part.now list.old result list.new }
 {
-    let Some(y) = layout::system_of(system) else {
-        return fault_list::refused(1);
+    let y = match refuse(system, channel, sequence, part.len()) {
+        Ok(y) => y,
+        Err(cause) => return fault_list::refused(layout::number_of(cause)),
     };
-    let out = faults::outside(y, channel, sequence);
-    let misfit = part.len() != SEQUENCE;
-    if out {
-        return fault_list::refused(3);
-    }
-    if misfit {
-        return fault_list::refused(4);
-    }
     let mut found = FaultList {
         numbers: list,
         total: 0,
