@@ -9,7 +9,7 @@ ghost use Rattle.rules_format.specs.Systems.{sequences_of};
 ghost use Rattle.rules_surveys.specs.FaultLists.{frame_faults};
 ghost use Rattle.first_fault.specs.Asked.{FirstFaultIs, first_or_length};
 
-use layout::{CHANNELS, SEQUENCE};
+use layout::{CHANNELS, DifSequence, SEQUENCE};
 use paper::{Cause, System};
 
 // The first fault, sequence by sequence.
@@ -20,7 +20,11 @@ fn first_in(frame: &[u8], y: System) -> Result<(), Cause>
     let n = layout::sequences(y);
     for j in 0..n * CHANNELS {
         let at = (j as usize) * SEQUENCE;
-        sequence::first_sequence(&frame[at..at + SEQUENCE], j / n, j % n)?;
+        let dif = DifSequence {
+            channel: j / n,
+            sequence: j % n,
+        };
+        sequence::first_sequence(&frame[at..at + SEQUENCE], dif)?;
     }
     Ok(())
 }

@@ -3,7 +3,7 @@ ghost use Rattle.std.specs.Prelude.{◌≡◌};
 ghost use Rattle.rules_surveys.specs.FaultLists.{sequence_faults};
 ghost use Rattle.judged_bits.specs.Clean.{is_named, Clean};
 
-use layout::{BLOCK, CHANNELS, PLACES, SEQUENCE};
+use layout::{BLOCK, CHANNELS, DifSequence, PLACES, SEQUENCE};
 use paper::IdAnswer;
 
 // Whether an ID names a block at all.
@@ -15,14 +15,14 @@ fn is_named(id: IdAnswer) -> bool
 
 // Whether the judged bits of every block's ID are its place's and, where ASK, the ID reader names a block too. No early return in
 // the loop, and the bits are asked before the ID, so that a block costs few instructions.
-pub fn clean_part<const ASK: bool>(part: &[u8], h: u32, q: u32) -> bool
-    ensures { Clean result (sequence_faults part.now h q) }
+pub fn clean_part<const ASK: bool>(part: &[u8], dif: DifSequence) -> bool
+    ensures { Clean result (sequence_faults part.now dif.channel dif.sequence) }
 {
-    if part.len() != SEQUENCE || CHANNELS <= h || 16 <= q {
+    if part.len() != SEQUENCE || CHANNELS <= dif.channel || 16 <= dif.sequence {
         return false;
     }
     let table = layout::printed_places();
-    let key = crate::key(h, q);
+    let key = crate::key(dif);
     let mut good = true;
     for p in 0..PLACES {
         let i = p as usize;

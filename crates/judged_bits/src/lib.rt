@@ -9,6 +9,7 @@ ghost use Rattle.rules_format.specs.Judging.{key_of};
 ghost use Rattle.judged_bits.specs.Asked.{Word, JudgedBlock};
 
 pub use clean::clean_part;
+use layout::DifSequence;
 
 // The first four bytes of a block as one number, the first lowest.
 fn word(block: &[u8]) -> u32
@@ -33,8 +34,9 @@ pub fn judged(block: &[u8]) -> u32
 }
 
 // Those that DIF channel and sequence give; the sequence modulo 16, as a written ID has it.
-pub fn key(h: u32, q: u32) -> u32
-    ensures { result ≡ key_of h (q % 16) }
+pub fn key(dif: DifSequence) -> u32
+    ensures { result ≡ key_of dif.channel (dif.sequence % 16) }
 {
+    let (h, q) = (dif.channel, dif.sequence);
     1024 * (4 * (q % 16) + 2 * (h % 2) + (1 - h / 2 % 2))
 }

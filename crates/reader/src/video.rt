@@ -2,17 +2,20 @@
 ghost use Rattle.rules_reads.specs.Macroblock.{MacroblockLies, MacroblockNumbered, MacroblockRead};
 ghost use Rattle.reader.specs.Asked.{SlotAsked, SlotStart};
 
-use layout::{BLOCK, PLACES};
-use paper::{BlockNumber, Part, Section, System};
+use layout::{BLOCK, DifSequence};
+use paper::{Part, Section, Slot, System};
 
-// Where the 77 bytes of video block v start, behind its ID.
-fn slot_start(y: System, h: u32, q: u32, v: BlockNumber) -> usize
-    requires { SlotAsked y h q v }
-    ensures { SlotStart y h q v result }
+// Where the 77 bytes of a slot start, behind the ID.
+fn slot_start(y: System, s: Slot) -> usize
+    requires { SlotAsked y s.channel s.sequence s.video }
+    ensures { SlotStart y s.channel s.sequence s.video result }
 {
-    let n = layout::sequences(y);
-    let p = layout::place_in(Section::Video, v);
-    (((n * h + q) * PLACES + p.0) as usize) * BLOCK + 3
+    let dif = DifSequence {
+        channel: s.channel,
+        sequence: s.sequence,
+    };
+    let p = layout::place_in(Section::Video, s.video);
+    dif.start(y) + p.0 as usize * BLOCK + 3
 }
 
 // The number of a read of macroblock b. Refusals: 1, 2, 3, the frame check's, 23.
@@ -33,7 +36,7 @@ pub fn macroblock_at(system: u32, frame: &[u8], b: u32) -> Part
     let s = picture::carrier(y, b).unwrap();
     Part {
         number: 0,
-        start: slot_start(y, s.channel, s.sequence, s.video) as u32,
+        start: slot_start(y, s) as u32,
         length: 77,
     }
 }

@@ -1,5 +1,5 @@
 // The samples of an audio channel, sequence by sequence. A sequence has its rank r among those of its audio channel; audio channels count from 0 here.
-ghost use Rattle.std.specs.Prelude.{◌≡◌, ◌+◌, ◌*◌, ◌≤◌, ◌<◌, length};
+ghost use Rattle.std.specs.Prelude.{◌≡◌, ◌+◌, ◌*◌, ◌/◌, ◌≤◌, ◌<◌, length};
 ghost use Rattle.rules_format.specs.Systems.{half_of, positions_of};
 ghost use Rattle.rules_format.specs.Blocks.{sequence_at};
 ghost use Rattle.rules_format.specs.Sound.{dif_of};
@@ -9,7 +9,7 @@ ghost use Rattle.rescue.specs.Taken.{held_sample, samples_fit, samples_left, ran
 ghost use Rattle.rescue.specs.Asked.{RankAsked, HalfAsked, HalfSalvaged};
 
 use fault_list::FaultList;
-use layout::SEQUENCE;
+use layout::{DifSequence, SEQUENCE};
 use paper::System;
 
 // The bytes of the sequence of rank r.
@@ -21,12 +21,16 @@ fn rank_part(frame: &[u8], y: System, i: u32, r: u32) -> &[u8]
     &frame[at..at + SEQUENCE]
 }
 
-// Its number in the DIF channel.
-fn rank_sequence(y: System, i: u32, r: u32) -> u32
+// Its DIF channel, and its number there.
+fn rank_dif(y: System, i: u32, r: u32) -> DifSequence
     requires { r < half_of y }
-    ensures { result ≡ rank_sequence y i r }
+    ensures channel { result.channel ≡ i / 2 }
+    ensures sequence { result.sequence ≡ rank_sequence y i r }
 {
-    layout::half(y) * (i % 2) + r
+    DifSequence {
+        channel: i / 2,
+        sequence: layout::half(y) * (i % 2) + r,
+    }
 }
 
 // Its samples.
@@ -36,7 +40,7 @@ fn take_rank(frame: &[u8], y: System, i: u32, r: u32, samples: &mut [i32])
     ensures { Between (half_of y) (9 * r) (9 * r + 9) (held_sample y frame.now (i + 1)) samples.old samples.new }
 {
     let part = rank_part(frame, y, i, r);
-    sequence_samples::take_sequence(part, y, i / 2, rank_sequence(y, i, r), samples);
+    sequence_samples::take_sequence(part, y, rank_dif(y, i, r), samples);
 }
 
 // Its faults.
@@ -46,7 +50,7 @@ fn survey_rank(frame: &[u8], y: System, i: u32, r: u32, list: &mut FaultList)
     ensures { NotedIn list.old (rank_faults y frame.now i r) list.new }
 {
     let part = rank_part(frame, y, i, r);
-    list.survey_next(y, i / 2, rank_sequence(y, i, r), part);
+    list.survey_next(y, rank_dif(y, i, r), part);
 }
 
 // The samples of an audio channel.

@@ -8,7 +8,7 @@ ghost use Rattle.rules_format.specs.Sound.{rank_at};
 ghost use Rattle.sequence_samples.specs.Taken.{held_word, held_block, held_part, Placed, Between, blocks_taken};
 ghost use Rattle.sequence_samples.specs.Asked.{WordsAsked, BlockAsked, PartAsked};
 
-use layout::{BLOCK, SEQUENCE};
+use layout::{BLOCK, DifSequence, SEQUENCE};
 use paper::{BlockNumber, Entry, Sample, Section, System};
 
 // A sample of a block, lost where the block does not name its place.
@@ -36,39 +36,39 @@ fn put_words(block: &[u8], named: bool, first: usize, step: usize, samples: &mut
 }
 
 // Audio block a of sequence q of DIF channel h.
-fn take_block(block: &[u8], y: System, h: u32, q: u32, a: BlockNumber, samples: &mut [i32])
+fn take_block(block: &[u8], y: System, dif: DifSequence, a: BlockNumber, samples: &mut [i32])
     requires { BlockAsked block.now y a.0 (length samples.old) }
-    ensures { Between (half_of y) (9 * rank_at (half_of y) q + a.0) (9 * rank_at (half_of y) q + a.0 + 1) (held_block (half_of y) block.now h q) samples.old samples.new }
+    ensures { Between (half_of y) (9 * rank_at (half_of y) dif.sequence + a.0) (9 * rank_at (half_of y) dif.sequence + a.0 + 1) (held_block (half_of y) block.now dif.channel dif.sequence) samples.old samples.new }
 {
     let entry = Entry {
         section: Section::Audio,
         number: a,
     };
-    let named = faults::names_entry(block, h, q, entry);
-    let first = sound::first_at(y, q, a) as usize;
+    let named = faults::names_entry(block, dif, entry);
+    let first = sound::first_at(y, dif.sequence, a) as usize;
     let step = (9 * layout::half(y)) as usize;
     put_words(block, named, first, step, samples);
 }
 
 // The nine audio blocks of a sequence.
-fn take_part(part: &[u8], y: System, h: u32, q: u32, samples: &mut [i32])
+fn take_part(part: &[u8], y: System, dif: DifSequence, samples: &mut [i32])
     requires { PartAsked part.now y (length samples.old) }
-    ensures { Between (half_of y) (9 * rank_at (half_of y) q) (9 * rank_at (half_of y) q + 9) (held_part (half_of y) part.now h q) samples.old samples.new }
+    ensures { Between (half_of y) (9 * rank_at (half_of y) dif.sequence) (9 * rank_at (half_of y) dif.sequence + 9) (held_part (half_of y) part.now dif.channel dif.sequence) samples.old samples.new }
 {
     for a in 0..9 {
         let p = layout::place_in(Section::Audio, BlockNumber(a));
         let at = p.0 as usize * BLOCK;
-        take_block(&part[at..at + BLOCK], y, h, q, BlockNumber(a), samples);
+        take_block(&part[at..at + BLOCK], y, dif, BlockNumber(a), samples);
     }
 }
 
 // The samples of a sequence; none where its bytes or the list do not fit the system.
-pub fn take_sequence(part: &[u8], y: System, h: u32, q: u32, samples: &mut [i32])
-    ensures { Between (half_of y) (9 * rank_at (half_of y) q) (9 * rank_at (half_of y) q + blocks_taken y (length part.now) (length samples.old)) (held_part (half_of y) part.now h q) samples.old samples.new }
+pub fn take_sequence(part: &[u8], y: System, dif: DifSequence, samples: &mut [i32])
+    ensures { Between (half_of y) (9 * rank_at (half_of y) dif.sequence) (9 * rank_at (half_of y) dif.sequence + blocks_taken y (length part.now) (length samples.old)) (held_part (half_of y) part.now dif.channel dif.sequence) samples.old samples.new }
 {
     let room = layout::positions(y) as usize;
     let fits = (part.len() == SEQUENCE) & (samples.len() <= room);
     if fits {
-        take_part(part, y, h, q, samples);
+        take_part(part, y, dif, samples);
     }
 }

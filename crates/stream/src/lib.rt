@@ -5,7 +5,7 @@ ghost use Rattle.std.specs.Prelude.{◌≡◌, ◌+◌, min, length};
 ghost use Rattle.stream.specs.Input.{counted_to, of_rate, nothing, system_after, Next, Refilled};
 
 use fault_list::FaultList;
-use layout::SEQUENCE;
+use layout::{DifSequence, SEQUENCE};
 use paper::System;
 
 // What is known of the bytes so far: their count, up to COUNTED, the 1080 system of the first block's rate, the faults found,
@@ -68,13 +68,15 @@ fn next(r: Reading, part: &[u8], list: &mut [u32]) -> Reading
     let y = system_after(r.count, before, part);
     let n = layout::sequences(y);
     let k = r.count / (SEQUENCE as u32);
-    let h = k / n;
-    let q = k % n;
+    let dif = DifSequence {
+        channel: k / n,
+        sequence: k % n,
+    };
     let mut found = FaultList {
         numbers: list,
         total: r.total,
     };
-    found.survey_next(y, h, q, part);
+    found.survey_next(y, dif, part);
     Reading {
         count: counted(r.count, part.len()),
         system: y,

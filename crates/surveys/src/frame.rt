@@ -7,15 +7,15 @@ ghost use Rattle.fault_list.specs.Listed.{NotedIn};
 ghost use Rattle.surveys.specs.Asked.{PartAsked, ChannelAsked, FrameAsked};
 
 use fault_list::FaultList;
-use layout::{CHANNELS, SEQUENCE};
+use layout::{CHANNELS, DifSequence, SEQUENCE};
 use paper::{Survey, System};
 
 // The bytes of sequence q of DIF channel h.
-fn part_of(frame: &[u8], y: System, h: u32, q: u32) -> &[u8]
-    requires { PartAsked frame.now y h q }
-    ensures { result.now ≡ sequence_at y frame.now h q }
+fn part_of(frame: &[u8], y: System, dif: DifSequence) -> &[u8]
+    requires { PartAsked frame.now y dif.channel dif.sequence }
+    ensures { result.now ≡ sequence_at y frame.now dif.channel dif.sequence }
 {
-    let at = ((layout::sequences(y) * h + q) as usize) * SEQUENCE;
+    let at = dif.start(y);
     &frame[at..at + SEQUENCE]
 }
 
@@ -25,7 +25,11 @@ fn survey_channel(frame: &[u8], y: System, h: u32, list: &mut FaultList)
     ensures { NotedIn list.old (channel_faults y frame.now h) list.new }
 {
     for q in 0..layout::sequences(y) {
-        list.survey_next(y, h, q, part_of(frame, y, h, q));
+        let dif = DifSequence {
+            channel: h,
+            sequence: q,
+        };
+        list.survey_next(y, dif, part_of(frame, y, dif));
     }
 }
 

@@ -5,7 +5,7 @@ ghost use Rattle.rules_surveys.specs.Survey.{SequenceSurveyed, sequence_number};
 ghost use Rattle.surveys.specs.Asked.{SequenceKnown};
 
 use fault_list::FaultList;
-use layout::SEQUENCE;
+use layout::{DifSequence, SEQUENCE};
 use paper::{Cause, Survey, System};
 
 // What the survey of a sequence of so many bytes is refused for: 1, 3, 4.
@@ -14,7 +14,7 @@ fn refuse(system: u32, channel: u32, sequence: u32, bytes: usize) -> Result<Syst
     ensures known { IfOk result (λ y. SequenceKnown system channel sequence bytes y) }
 {
     let y = layout::system_of(system).ok_or(Cause::NoSystem)?;
-    let out = faults::outside(y, channel, sequence);
+    let out = faults::outside(y, DifSequence { channel, sequence });
     if out {
         return Err(Cause::OutsideSystem);
     }
@@ -42,6 +42,6 @@ pub fn survey_sequence(
         numbers: list,
         total: 0,
     };
-    found.survey_next(y, channel, sequence, part);
+    found.survey_next(y, DifSequence { channel, sequence }, part);
     found.answered()
 }

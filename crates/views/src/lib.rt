@@ -6,17 +6,15 @@ ghost use Rattle.paper.specs.Causes.{number_said};
 ghost use Rattle.rules_surveys.specs.View.{ViewLies, ViewNumbered, Viewed, view_number};
 ghost use Rattle.views.specs.Asked.{FoundAt, InFrame, StartIs};
 
-use layout::{BLOCK, PLACES};
+use layout::{BLOCK, DifSequence, PLACES};
 use paper::{Cause, Part, Place, System};
 
 // Where a block starts.
-fn block_start(y: System, h: u32, q: u32, p: Place) -> usize
-    requires { InFrame y h q p.0 }
-    ensures { StartIs y h q p.0 result }
+fn block_start(y: System, dif: DifSequence, p: Place) -> usize
+    requires { InFrame y dif.channel dif.sequence p.0 }
+    ensures { StartIs y dif.channel dif.sequence p.0 result }
 {
-    let place = p.0;
-    let n = layout::sequences(y);
-    (((n * h + q) * PLACES + place) as usize) * BLOCK
+    dif.start(y) + p.0 as usize * BLOCK
 }
 
 // Where the block starts whose view is not refused.
@@ -31,13 +29,13 @@ fn viewed(
     ensures lies { IfOk result (λ at. FoundAt system frame.now channel sequence place at) }
 {
     let y = layout::system_of_frame(system, frame.len())?;
-    let p = place.0;
-    let out = faults::outside(y, channel, sequence) | (PLACES <= p);
+    let dif = DifSequence { channel, sequence };
+    let out = faults::outside(y, dif) | (PLACES <= place.0);
     if out {
         return Err(Cause::OutsideSystem);
     }
-    let at = block_start(y, channel, sequence, place);
-    faults::fault_at(&frame[at..at + BLOCK], channel, sequence, place)?;
+    let at = block_start(y, dif, place);
+    faults::fault_at(&frame[at..at + BLOCK], dif, place)?;
     Ok(at)
 }
 

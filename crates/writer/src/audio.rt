@@ -4,12 +4,14 @@ ghost use Rattle.rules_format.specs.Sound.{audio_at};
 ghost use Rattle.rules_writes.specs.Written.{samples_of};
 ghost use Rattle.writer.specs.Asked.{ChannelAsked, SamplesAsked};
 
-// The audio channel of sequence q of DIF channel h.
-pub(crate) fn audio_at(s: u32, h: u32, q: u32) -> u32
-    requires { ChannelAsked s h q }
-    ensures { result ≡ audio_at s h q }
+use layout::DifSequence;
+
+// The audio channel of a sequence.
+pub(crate) fn audio_at(s: u32, dif: DifSequence) -> u32
+    requires { ChannelAsked s dif.channel dif.sequence }
+    ensures { result ≡ audio_at s dif.channel dif.sequence }
 {
-    2 * h + q / s + 1
+    2 * dif.channel + dif.sequence / s + 1
 }
 
 // The samples of an audio channel; sound is lent audio channel after audio channel.

@@ -7,7 +7,7 @@ ghost use Rattle.writer.specs.Asked.{ChannelPartAsked};
 
 use crate::material::Material;
 use crate::sequence;
-use layout::{CHANNELS, SEQUENCE};
+use layout::{CHANNELS, DifSequence, SEQUENCE};
 
 fn write_channel(part: &mut [u8], m: &Material, h: u32)
     requires { ChannelPartAsked part.old m.now.system h }
@@ -16,7 +16,11 @@ fn write_channel(part: &mut [u8], m: &Material, h: u32)
     for q in 0..layout::sequences(m.system) {
         let at = (q as usize) * SEQUENCE;
         let to = at + SEQUENCE;
-        sequence::write_sequence(&mut part[at..to], m, h, q);
+        let dif = DifSequence {
+            channel: h,
+            sequence: q,
+        };
+        sequence::write_sequence(&mut part[at..to], m, dif);
     }
 }
 

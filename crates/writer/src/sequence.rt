@@ -12,7 +12,7 @@ ghost use Rattle.writer.specs.Blocks.{first_blocks, video_blocks, head_blocks, b
 
 use crate::audio;
 use crate::material::{Bank, Material};
-use layout::BLOCK;
+use layout::{BLOCK, DifSequence};
 use paper::{BlockId, BlockNumber, Pack, Place, Repeated, Section, SubcodeData, System};
 
 // The bytes of a bank.
@@ -26,70 +26,70 @@ fn start(section: Section) -> usize
     p.0 as usize * BLOCK
 }
 
-fn id(h: u32, q: u32, section: Section, number: u32) -> BlockId
-    ensures { result ≡ id_of h q section number }
+fn id(dif: DifSequence, section: Section, number: u32) -> BlockId
+    ensures { result ≡ id_of dif.channel dif.sequence section number }
 {
     BlockId {
-        section: section,
-        channel: h,
-        dseq: q,
+        section,
+        channel: dif.channel,
+        dseq: dif.sequence,
         dbn: BlockNumber(number),
     }
 }
 
 // SC0, SC1.
-fn write_subcodes(part: &mut [u8], y: System, h: u32, q: u32, said: SubcodeData)
+fn write_subcodes(part: &mut [u8], y: System, dif: DifSequence, said: SubcodeData)
     requires { length part.old ≡ 160 }
-    ensures { part.new ≡ first_blocks h q Section.Subcode (subcode_bytes (is_first y q) said) 2 }
+    ensures { part.new ≡ first_blocks dif.channel dif.sequence Section.Subcode (subcode_bytes (is_first y dif.sequence) said) 2 }
 {
     for k in 0..2 {
         let at = (k as usize) * BLOCK;
         let to = at + BLOCK;
         blocks::put_subcode(
             &mut part[at..to],
-            id(h, q, Section::Subcode, k),
-            q < layout::half(y),
+            id(dif, Section::Subcode, k),
+            dif.sequence < layout::half(y),
             said,
         );
     }
 }
 
 // VA0, VA1, VA2.
-fn write_vauxes(part: &mut [u8], h: u32, q: u32, vs: Pack, vsc: Pack)
+fn write_vauxes(part: &mut [u8], dif: DifSequence, vs: Pack, vsc: Pack)
     requires { length part.old ≡ 240 }
-    ensures { part.new ≡ first_blocks h q Section.Vaux (vaux_bytes vs vsc q) 3 }
+    ensures { part.new ≡ first_blocks dif.channel dif.sequence Section.Vaux (vaux_bytes vs vsc dif.sequence) 3 }
 {
     for k in 0..3 {
         let at = (k as usize) * BLOCK;
         let to = at + BLOCK;
-        blocks::put_vaux(&mut part[at..to], id(h, q, Section::Vaux, k), vs, vsc);
+        blocks::put_vaux(&mut part[at..to], id(dif, Section::Vaux, k), vs, vsc);
     }
 }
 
 // The six blocks before the banks.
-fn write_head(part: &mut [u8], y: System, h: u32, q: u32, repeated: Repeated)
+fn write_head(part: &mut [u8], y: System, dif: DifSequence, repeated: Repeated)
     requires { length part.old ≡ 480 }
-    ensures { part.new ≡ head_blocks y repeated h q }
+    ensures { part.new ≡ head_blocks y repeated dif.channel dif.sequence }
 {
     let subcode = start(Section::Subcode);
     let vaux = start(Section::Vaux);
     let audio = start(Section::Audio);
-    blocks::put_header(&mut part[0..subcode], id(h, q, Section::Header, 0), y);
-    write_subcodes(&mut part[subcode..vaux], y, h, q, repeated.subcode);
-    write_vauxes(&mut part[vaux..audio], h, q, repeated.vs, repeated.vsc);
+    blocks::put_header(&mut part[0..subcode], id(dif, Section::Header, 0), y);
+    write_subcodes(&mut part[subcode..vaux], y, dif, repeated.subcode);
+    write_vauxes(&mut part[vaux..audio], dif, repeated.vs, repeated.vsc);
 }
 
 // Fifteen video blocks one after the other, from V(v) on.
-fn write_videos(part: &mut [u8], bank: &Bank, h: u32, q: u32, v: u32)
+fn write_videos(part: &mut [u8], bank: &Bank, dif: DifSequence, v: u32)
     requires { VideosAsked part.old v }
-    ensures { part.new ≡ video_blocks bank.now.system bank.now.macroblocks.now h q v }
+    ensures { part.new ≡ video_blocks bank.now.system bank.now.macroblocks.now dif.channel dif.sequence v }
 {
     for j in 0..15 {
         let at = (j as usize) * BLOCK;
         let to = at + BLOCK;
         blocks::put_video(
             &mut part[at..to],
-            id(h, q, Section::Video, v + j),
+            id(dif, Section::Video, v + j),
             bank.system,
             bank.macroblocks,
         );
@@ -106,41 +106,41 @@ fn behind(a: u32) -> u32
 }
 
 // A(a) and the video blocks behind it.
-fn write_bank(part: &mut [u8], bank: &Bank, h: u32, q: u32, a: u32)
+fn write_bank(part: &mut [u8], bank: &Bank, dif: DifSequence, a: u32)
     requires { BankAsked part.old a }
-    ensures { part.new ≡ bank_blocks bank.now.system bank.now.source bank.now.asc bank.now.samples.now bank.now.macroblocks.now h q a }
+    ensures { part.new ≡ bank_blocks bank.now.system bank.now.source bank.now.asc bank.now.samples.now bank.now.macroblocks.now dif.channel dif.sequence a }
 {
     blocks::put_audio(
         &mut part[0..BLOCK],
-        id(h, q, Section::Audio, a),
+        id(dif, Section::Audio, a),
         bank.system,
         bank.source,
         bank.asc,
         bank.samples,
     );
-    write_videos(&mut part[BLOCK..BANK], bank, h, q, behind(a));
+    write_videos(&mut part[BLOCK..BANK], bank, dif, behind(a));
 }
 
 // The nine banks of a sequence. What comes before A0 stays as it is.
-fn write_banks(part: &mut [u8], bank: &Bank, h: u32, q: u32)
+fn write_banks(part: &mut [u8], bank: &Bank, dif: DifSequence)
     requires { length part.old ≡ 12000 }
-    ensures { part.new ≡ take 480 part.old ++ run (bank_blocks bank.now.system bank.now.source bank.now.asc bank.now.samples.now bank.now.macroblocks.now h q) 9 }
+    ensures { part.new ≡ take 480 part.old ++ run (bank_blocks bank.now.system bank.now.source bank.now.asc bank.now.samples.now bank.now.macroblocks.now dif.channel dif.sequence) 9 }
 {
     for a in 0..9 {
         let p = layout::place_in(Section::Audio, BlockNumber(a));
         let at = p.0 as usize * BLOCK;
         let to = at + BANK;
-        write_bank(&mut part[at..to], bank, h, q, a);
+        write_bank(&mut part[at..to], bank, dif, a);
     }
 }
 
-pub(crate) fn write_sequence(part: &mut [u8], m: &Material, h: u32, q: u32)
-    requires { SequenceAsked part.old m.now.system h q }
-    ensures { part.new ≡ written_sequence m.now.system (material_of m.now.repeated m.now.count m.now.sound.now m.now.macroblocks.now) h q }
+pub(crate) fn write_sequence(part: &mut [u8], m: &Material, dif: DifSequence)
+    requires { SequenceAsked part.old m.now.system dif.channel dif.sequence }
+    ensures { part.new ≡ written_sequence m.now.system (material_of m.now.repeated m.now.count m.now.sound.now m.now.macroblocks.now) dif.channel dif.sequence }
 {
-    let c = audio::audio_at(layout::half(m.system), h, q);
+    let c = audio::audio_at(layout::half(m.system), dif);
     let head = start(Section::Audio);
-    write_head(&mut part[0..head], m.system, h, q, m.repeated);
+    write_head(&mut part[0..head], m.system, dif, m.repeated);
     let bank = Bank {
         system: m.system,
         source: packs::as_pack(m.system, m.count, c),
@@ -148,5 +148,5 @@ pub(crate) fn write_sequence(part: &mut [u8], m: &Material, h: u32, q: u32)
         samples: audio::samples_of(m.sound, c, m.count),
         macroblocks: m.macroblocks,
     };
-    write_banks(part, &bank, h, q);
+    write_banks(part, &bank, dif);
 }
