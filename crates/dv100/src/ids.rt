@@ -1,15 +1,16 @@
 // The answer to an ID by its values, for C, which has no enum with fields.
 ghost use Rattle.std.specs.Prelude.{◌≡◌};
+ghost use Rattle.paper.specs.Causes.{cause_number};
 ghost use Rattle.rules_format.specs.Ids.{id_refusal, id_values};
 
-use paper::{BlockId, IdAnswer, IdValues, Spare};
+use paper::{BlockId, Cause, IdAnswer, IdValues, Spare};
 
 // A refusal: its number, and zeros.
-fn refused(number: u32) -> IdValues
-    ensures { result ≡ id_refusal number }
+fn refused(cause: Cause) -> IdValues
+    ensures { result ≡ id_refusal (cause_number cause) }
 {
     IdValues {
-        number: number,
+        number: layout::number_of(cause),
         section: 0,
         channel: 0,
         dseq: 0,
@@ -25,19 +26,17 @@ pub(crate) fn values(answer: IdAnswer) -> IdValues
 {
     match answer {
         IdAnswer::Named(b, spare) => {
-            let section = b.section;
-            let dbn = b.dbn;
             IdValues {
                 number: 0,
-                section: layout::section_code(section),
+                section: layout::section_code(b.section),
                 channel: b.channel,
                 dseq: b.dseq,
-                dbn: dbn.0,
+                dbn: b.dbn.0,
                 arbitrary: spare.arbitrary,
                 reserved: spare.reserved,
             }
         }
-        IdAnswer::Reserved => refused(11),
-        IdAnswer::WrongLength => refused(4),
+        IdAnswer::Reserved => refused(Cause::ReservedSection),
+        IdAnswer::WrongLength => refused(Cause::LentLength),
     }
 }

@@ -1,11 +1,14 @@
 -- What is noted in a lent list, as a loop keeps it. Assumes nothing.
 use mathlib.Core.Path.{◌≡◌, refl, sym, ap, ◌∙◌}
 use mathlib.Core.List.{List}
-use Prim.Native.Nat.{ℕ, ◌+◌}
+use Prim.Native.Nat.{ℕ, zero, suc, ◌+◌}
 use lib.ListN.{length}
 use Rattle.base.specs.Run.{run}
 use Rattle.paper.specs.declared.Fault.{Fault}
+use Rattle.paper.specs.declared.Survey.{Survey}
 use Rattle.rules_surveys.specs.Noting.{Noted}
+use Rattle.rules_surveys.specs.Survey.{refusal, Surveyed}
+use Rattle.rules_surveys.proofs.Calls.{survey_stopped}
 use Rattle.rules_surveys.proofs.Records.{noted_start, noted_turn}
 use Rattle.fault_list.specs.declared.list.FaultList.{FaultList}
 use Rattle.fault_list.specs.Listed.{NotedIn}
@@ -28,3 +31,9 @@ module _ {fs : List Fault} (old new : FaultList) (list list' : List ℕ) (n : No
 
   pub in_size : length new.numbers.now ≡ length list
   in_size = ap length (sym left) ∙ back.0
+
+-- ---- a refusal, by its number
+
+pub refused_by : (number : ℕ) (fs : List Fault) (list : List ℕ) (n : ℕ) (r : Survey) → number ≡ n → (n ≡ 0 → ⊥) → r ≡ refusal n → Surveyed number fs list r list
+refused_by number fs list zero r e d er = absurd (d refl)
+refused_by number fs list (suc n) r e d er = survey_stopped number fs list n r e er

@@ -59,18 +59,12 @@ module _ (y : System) (h q : ℕ) (v : BlockNumber) (asked : SlotAsked y h q v) 
   slot_place : p.0 ≡ place_in Video v.0
   slot_place = ap (λ (x : Place). x.0) (ep ∙ place_for_lem Video v asked.video)
 
-  module _ (n : ℕ) (en : n ≡ sequences_of y) where
-    -- n · h is one number to omega
-    before : n * h ≤ sequences_of y * 3
-    before = rw en (before_channel (sequences_of y) h asked.channel)
+  module _ (s : ℕ) (es : s ≡ (sequences_of y * h + q) * 12000) where
+    pub slot_small : s + p.0 * 80 + 80 ≤ 48000 * sequences_of y
+    slot_small = omega (arith, es, before_channel (sequences_of y) h asked.channel, asked.sequence, asked.video, slot_place)
 
-    pub slot_small : (n * h + q) * 150 + p.0 < 600 * sequences_of y
-    slot_small = omega (arith, before, asked.sequence, asked.video, slot_place)
-
-    pub start_is : (r : ℕ) → r ≡ ((n * h + q) * 150 + p.0) * 80 + 3 → SlotStart y h q v r
-    start_is r er =
-        let e : n * h ≡ sequences_of y * h = ap (λ (x : ℕ). x * h) en in
-        record { is = omega (arith, er, e, slot_place); within = omega (arith, er, slot_small); small = omega (arith, er, slot_small, sequences_le y) }
+    pub start_is : SlotStart y h q v (s + p.0 * 80 + 3)
+    start_is = record { is = omega (arith, es, slot_place); within = omega (arith, slot_small); small = omega (arith, slot_small, sequences_le y) }
 
 -- ---- macroblock_at and macroblock
 

@@ -78,8 +78,8 @@ module _ (y : System) (i r m : ℕ) (em : m ≡ half_of y) where
 -- ---- take_rank and survey_rank
 
 module _ (frame : List ℕ) (y : System) (i r : ℕ) (asked : RankAsked frame y i r) (part : List ℕ) (ep : part ≡ sequence_at y frame (dif_of (i + 1)) (rank_sequence y i r)) where
-  h_is : i / 2 ≡ dif_of (i + 1)
-  h_is = omega arith
+  half_is : i / 2 ≡ dif_of (i + 1)
+  half_is = omega arith
 
   h_below : dif_of (i + 1) < 4
   h_below = omega (arith, asked.channel)
@@ -87,9 +87,12 @@ module _ (frame : List ℕ) (y : System) (i r : ℕ) (asked : RankAsked frame y 
   rank_long : length (sequence_at y frame (dif_of (i + 1)) (rank_sequence y i r)) ≡ 12000
   rank_long = sequence_length y frame (dif_of (i + 1)) (rank_sequence y i r) asked.whole h_below (q_below y i r (half_of y) refl asked.rank)
 
-  module _ (q : ℕ) (eq : q ≡ rank_sequence y i r) where
+  module _ (h q : ℕ) (eh : h ≡ i / 2) (eq : q ≡ rank_sequence y i r) where
+    h_is : h ≡ dif_of (i + 1)
+    h_is = eh ∙ half_is
+
     pub rank_taken : (before now : List ℤ) → length before ≤ positions_of y
-        → Between (half_of y) (9 * rank_at (half_of y) q) (9 * rank_at (half_of y) q + blocks_taken y (length part) (length before)) (held_part (half_of y) part (i / 2) q) before now
+        → Between (half_of y) (9 * rank_at (half_of y) q) (9 * rank_at (half_of y) q + blocks_taken y (length part) (length before)) (held_part (half_of y) part h q) before now
         → Between (half_of y) (9 * r) (9 * r + 9) (held_sample y frame (i + 1)) before now
     rank_taken before now room b =
         let p = rw (nine_taken y (length part) (length before) (ap length ep ∙ rank_long) room) at b in
@@ -102,10 +105,10 @@ module _ (frame : List ℕ) (y : System) (i r : ℕ) (asked : RankAsked frame y 
         ap (λ (j : ℕ). held_part s (sequence_at y frame (dif_of (i + 1)) (rank_sequence y i j)) (dif_of (i + 1)) (rank_sequence y i j) t) (sym e)
         ∙ held_sample_lem y frame (i + 1) t) p'
 
-    pub rank_noted : (list list' : FaultList) → list.total ≤ 7200 → NotedIn list (next_faults y (i / 2) q part list.total) list' → NotedIn list (rank_faults y frame i r) list'
+    pub rank_noted : (list list' : FaultList) → list.total ≤ 7200 → NotedIn list (next_faults y h q part list.total) list' → NotedIn list (rank_faults y frame i r) list'
     rank_noted list list' l n =
-        let h = dif_of (i + 1) in
-        let inside = next_inside y h (rank_sequence y i r) (sequence_at y frame h (rank_sequence y i r)) list.total h_below (q_below y i r (half_of y) refl asked.rank) rank_long (omega arith) in
+        let d = dif_of (i + 1) in
+        let inside = next_inside y d (rank_sequence y i r) (sequence_at y frame d (rank_sequence y i r)) list.total h_below (q_below y i r (half_of y) refl asked.rank) rank_long (omega arith) in
         rw inside at (rw (ep, h_is, eq) at n)
 
 -- ---- take_half and salvage_half

@@ -1,21 +1,20 @@
 -- What the loop over the audio channels keeps, and the ways out of the call. Assumes nothing.
-use Rattle.std.specs.Prelude.{Option, Some, None}
 use mathlib.Core.Path.{◌≡◌, refl, sym, ap, ◌∙◌}
-use mathlib.Core.Bool.{true, false, not}
-use mathlib.Core.List.{List, [], ◌++◌}
-use Prim.Native.Nat.{ℕ, suc, ◌+◌, ◌*◌, ◌-◌, ◌≤◌, ◌<◌}
+use mathlib.Core.Bool.{true}
+use mathlib.Core.List.{List, ◌++◌}
+use Prim.Native.Nat.{ℕ, ◌+◌, ◌*◌, ◌-◌, ◌≤◌, ◌<◌}
 use native.Mathlib.Omega.{arith}
 use lib.Dec.{eqb}
 use lib.IntN.{ℤ}
 use lib.ListN.{length, take, drop}
 use mir.Syntax.{w64}
 use mir.Val.{Fits}
-use borrow.Author.Tests.{eq-eqb, ne_eqb, eqb-true, not-false}
+use borrow.Author.Tests.{eq-eqb, ne_eqb}
 use Rattle.base.specs.Calls.{first_of}
 use Rattle.base.specs.Run.{run, tab, Wide}
 use Rattle.base.proofs.Filling.{Filled, filled_none, filled_next, filled_end}
 use Rattle.base.proofs.Parts.{range_part, length_part}
-use Rattle.base.proofs.Picks.{pick_true, pick_false, first_here, first_next}
+use Rattle.base.proofs.Picks.{pick_true, pick_false}
 use Rattle.base.proofs.Runs.{end_within, length_tab}
 use Rattle.paper.specs.declared.System.{System}
 use Rattle.paper.specs.declared.Survey.{Survey}
@@ -26,14 +25,20 @@ use Rattle.rules_surveys.specs.Survey.{refusal}
 use Rattle.rules_surveys.specs.Salvage.{salvaged_channel, salvaged, salvage_number, salvage_left, Salvaged}
 use Rattle.rules_format.proofs.Systems.{half_cases, positions_le}
 use Rattle.rules_surveys.proofs.Halves.{faults_halves, halves_le}
-use Rattle.rules_surveys.proofs.Calls.{survey_done, survey_stopped}
+use Rattle.rules_surveys.proofs.Calls.{survey_done}
 use Rattle.fault_list.specs.declared.list.FaultList.{FaultList}
 use Rattle.fault_list.specs.Asked.{tallied}
 use Rattle.fault_list.specs.Listed.{NotedIn}
-use Rattle.fault_list.proofs.Listing.{in_turn, in_noted, in_size}
+use Rattle.fault_list.proofs.Listing.{in_turn, in_noted, in_size, refused_by}
 use Rattle.sequence_samples.proofs.Between.{between_all}
 use Rattle.rescue.specs.Taken.{held_sample, half_samples, half_faults}
-use Rattle.rescue.specs.Asked.{HalfAsked, HalfSalvaged, FrameAsked, FrameSalvaged}
+use Rattle.rescue.specs.Asked.{HalfAsked, HalfSalvaged, FrameAsked, FrameSalvaged, LentKnown}
+use Rattle.paper.specs.declared.Cause.{Cause}
+use Rattle.paper.specs.Causes.{cause_number}
+use Rattle.layout.specs.Asked.{FrameKnown, frame_rows}
+use Rattle.layout.proofs.Saying.{never_zero}
+use Rattle.layout.proofs.Refusing.{frame_stops}
+use Rattle.rules_surveys.proofs.Salvage.{salvage_4, salvage_0}
 
 -- ---- salvage_all: audio channel i + 1, of n positions
 
@@ -93,58 +98,52 @@ all_salvaged y frame n i before now list list' en asked le ge f m =
       noted = rw (faults_halves y frame) (rw e at m);
     }
 
--- ---- the call: s is what `system_of` answers
+-- ---- the call
 
-first_none : first_of [] ≡ 0
-unfolding first_of
-first_none = refl
-
-module _ (k : ℕ) (s : Option System) (es : s ≡ system_of k) (frame : List ℕ) (samples : List ℤ) (list : List ℕ) where
-  stopped : (j : ℕ) (r : Survey) → salvage_number k frame (length samples) ≡ suc j → r ≡ refusal (suc j) → Salvaged k frame samples list r samples list
-  unfolding salvage_left
-  stopped j r e er =
-      record { survey = survey_stopped _ _ list j r e er; left = sym (pick_false _ _ (ne_eqb (salvage_number k frame (length samples)) 0 (λ z. omega arith))) }
-
-  pub salvage_no_system : (r : Survey) → s ≡ None → r ≡ refusal 1 → Salvaged k frame samples list r samples list
+module _ (k : ℕ) (frame : List ℕ) (size : ℕ) where
+  pub salvage_stops : (cause : Cause) → cause_number cause ≡ first_of (frame_rows k (length frame)) → cause_number cause ≡ salvage_number k frame size
   unfolding salvage_number
-  salvage_no_system r e er =
-      let none : system_of k ≡ None = sym es ∙ e in
-      stopped 0 r (rw none (first_here true 1 _ refl)) er
+  salvage_stops cause e = frame_stops k (length frame) _ cause e
 
-  module _ (y : System) (e : s ≡ Some y) (n : ℕ) (en : n ≡ 48000 * sequences_of y) (m : ℕ) (em : m ≡ positions_of y) where
-    known : system_of k ≡ Some y
-    known = sym es ∙ e
+  module _ (y : System) (is : FrameKnown k (length frame) y) (m : ℕ) (em : m ≡ positions_of y) where
+    whole : eqb (length frame) (48000 * sequences_of y) ≡ true
+    whole = eq-eqb _ _ is.whole
 
-    pub salvage_wrong_length : (r : Survey) → not (eqb (length frame) n) ≡ true → r ≡ refusal 2 → Salvaged k frame samples list r samples list
-    unfolding salvage_number
-    salvage_wrong_length r d er =
-        stopped 1 r (rw known (first_next false 1 _ refl ∙ first_here _ 2 _ (rw en at d))) er
+    pub wrong_room : (size ≡ 8 * m → ⊥) → 4 ≡ salvage_number k frame size
+    wrong_room d = salvage_4 k frame size y is.known whole (ne_eqb _ _ (λ z. d (z ∙ ap (λ (n : ℕ). 8 * n) (sym em))))
 
-    module _ (whole : not (eqb (length frame) n) ≡ false) where
-      pub salvage_wrong_room : (r : Survey) → not (eqb (length samples) (8 * m)) ≡ true → r ≡ refusal 4 → Salvaged k frame samples list r samples list
-      unfolding salvage_number
-      salvage_wrong_room r d er =
-          stopped 3 r (rw known (first_next false 1 _ refl ∙ first_next _ 2 _ (rw en at whole) ∙ first_here _ 4 _ (rw em at d))) er
+    pub right_room : size ≡ 8 * m → 0 ≡ salvage_number k frame size
+    right_room e = salvage_0 k frame size y is.known whole (eq-eqb _ _ (e ∙ ap (λ (n : ℕ). 8 * n) em))
 
-      module _ (room : not (eqb (length samples) (8 * m)) ≡ false) where
-        taken : salvage_number k frame (length samples) ≡ 0
-        unfolding salvage_number
-        taken = rw known (first_next false 1 _ refl ∙ first_next _ 2 _ (rw en at whole) ∙ first_next _ 4 _ (rw em at room) ∙ first_none)
+    pub lent_known : size ≡ 8 * m → LentKnown k frame size y
+    lent_known e = record { lies = is; room = e ∙ ap (λ (n : ℕ). 8 * n) em }
 
-        pub frame_asked : FrameAsked frame y (length samples)
-        frame_asked = record { whole = eqb-true _ _ (not-false _ (rw en at whole)); samples = eqb-true _ _ (not-false _ (rw em at room)) }
+pub frame_asked : (k : ℕ) (frame : List ℕ) (size : ℕ) (y : System) → LentKnown k frame size y → FrameAsked frame y size
+frame_asked k frame size y is = record { whole = is.lies.whole; samples = is.room }
 
-        pub salvage_done : (samples' : List ℤ) (list' : List ℕ) (old new : FaultList) (r : Survey) → FrameSalvaged y frame samples' old new → old.numbers.now ≡ list → old.total ≡ 0
-            → (length list' ≡ length list) × (old.numbers.ghost_name ≡ new.numbers.ghost_name → list' ≡ new.numbers.now)
-            → r ≡ tallied new.total (length new.numbers.now) → Salvaged k frame samples list r samples' list'
-        unfolding salvage_left
-        salvage_done samples' list' old new r p ea et back er' =
-            let t = new.total in
-            let nt : Noted list 0 (frame_faults y frame) list' t = rw et at (in_noted old new list list' p.noted ea back) in
-            let er : r ≡ tallied t (length list) = er' ∙ ap (tallied t) (in_size old new list list' p.noted ea back) in
-            let all : frame_faults y frame ≡ faults_in (system_of k) frame = rw known refl in
-            let sound : salvaged y frame ≡ in_system samples (λ (x : System). salvaged x frame) (system_of k) = rw known refl in
-            record {
-              survey = rw er (survey_done _ _ list list' t _ taken (rw all at nt) refl);
-              left = p.sound ∙ sound ∙ sym (pick_true _ _ (eq-eqb _ 0 taken));
-            }
+module _ (k : ℕ) (frame : List ℕ) (samples : List ℤ) (list : List ℕ) where
+  pub salvage_stopped : (cause : Cause) → cause_number cause ≡ salvage_number k frame (length samples) → (n : ℕ) → n ≡ cause_number cause → (r : Survey) → r ≡ refusal n
+      → Salvaged k frame samples list r samples list
+  unfolding salvage_left
+  salvage_stopped cause e n en r er =
+      let d : n ≡ 0 → ⊥ = λ z. never_zero cause (sym en ∙ z) in
+      record {
+        survey = refused_by _ _ list n r (sym (en ∙ e)) d er;
+        left = sym (pick_false _ _ (ne_eqb (salvage_number k frame (length samples)) 0 (λ z. d (en ∙ e ∙ z))));
+      }
+
+  module _ (y : System) (is : LentKnown k frame (length samples) y) where
+    pub salvage_done : (samples' : List ℤ) (list' : List ℕ) (old new : FaultList) (r : Survey) → 0 ≡ salvage_number k frame (length samples) → FrameSalvaged y frame samples' old new
+        → old.numbers.now ≡ list → old.total ≡ 0 → (length list' ≡ length list) × (old.numbers.ghost_name ≡ new.numbers.ghost_name → list' ≡ new.numbers.now)
+        → r ≡ tallied new.total (length new.numbers.now) → Salvaged k frame samples list r samples' list'
+    unfolding salvage_left
+    salvage_done samples' list' old new r taken p ea et back er' =
+        let t = new.total in
+        let nt : Noted list 0 (frame_faults y frame) list' t = rw et at (in_noted old new list list' p.noted ea back) in
+        let er : r ≡ tallied t (length list) = er' ∙ ap (tallied t) (in_size old new list list' p.noted ea back) in
+        let all : frame_faults y frame ≡ faults_in (system_of k) frame = rw is.lies.known refl in
+        let sound : salvaged y frame ≡ in_system samples (λ (x : System). salvaged x frame) (system_of k) = rw is.lies.known refl in
+        record {
+          survey = rw er (survey_done _ _ list list' t _ (sym taken) (rw all at nt) refl);
+          left = p.sound ∙ sound ∙ sym (pick_true _ _ (eq-eqb _ 0 (sym taken)));
+        }

@@ -1,6 +1,7 @@
 -- What the private functions ask and say.
 use Rattle.std.specs.Prelude.{◌≡◌, List, ℕ, ◌+◌, ◌*◌, ◌≤◌, ◌<◌, ℤ, length}
 use Rattle.paper.specs.declared.System.{System}
+use Rattle.layout.specs.Asked.{FrameKnown}
 use Rattle.rules_format.specs.Systems.{sequences_of, half_of, positions_of}
 use Rattle.rules_surveys.specs.FaultLists.{frame_faults}
 use Rattle.rules_surveys.specs.Salvage.{salvaged}
@@ -34,3 +35,8 @@ pub record FrameAsked (frame : List ℕ) (y : System) (size : ℕ) : Type 0 wher
 pub record FrameSalvaged (y : System) (frame : List ℕ) (samples' : List ℤ) (list list' : FaultList) : Type 0 where
   pub sound : samples' ≡ salvaged y frame
   pub noted : NotedIn list (frame_faults y frame) list'
+
+-- system k is y, whose frame and samples have their lengths
+pub record LentKnown (k : ℕ) (frame : List ℕ) (samples : ℕ) (y : System) : Type 0 where
+  pub lies : FrameKnown k (length frame) y
+  pub room : samples ≡ 8 * positions_of y

@@ -1,11 +1,12 @@
 // The call: its refusals in their order, then the audio channels one after the other.
-ghost use Rattle.std.specs.Prelude.{◌≡◌, length};
-ghost use Rattle.rules_surveys.specs.Salvage.{Salvaged};
-ghost use Rattle.rescue.specs.Asked.{FrameAsked, FrameSalvaged};
+ghost use Rattle.std.specs.Prelude.{◌≡◌, IfOk, length};
+ghost use Rattle.paper.specs.Causes.{number_said};
+ghost use Rattle.rules_surveys.specs.Salvage.{salvage_number, Salvaged};
+ghost use Rattle.rescue.specs.Asked.{FrameAsked, FrameSalvaged, LentKnown};
 
 use crate::half;
 use fault_list::FaultList;
-use paper::{Survey, System};
+use paper::{Cause, Survey, System};
 
 // Every audio channel.
 fn salvage_all(frame: &[u8], y: System, samples: &mut [i32], list: &mut FaultList)
@@ -21,21 +22,26 @@ fn salvage_all(frame: &[u8], y: System, samples: &mut [i32], list: &mut FaultLis
     }
 }
 
+// What is lent, so many numbers for samples, is refused for: 1, 2, 4.
+fn refuse(system: u32, frame: &[u8], samples: usize) -> Result<System, Cause>
+    ensures said { number_said result ≡ salvage_number system frame.now samples }
+    ensures known { IfOk result (λ y. LentKnown system frame.now samples y) }
+{
+    let y = layout::system_of_frame(system, frame.len())?;
+    if samples != 8 * (layout::positions(y) as usize) {
+        return Err(Cause::LentLength);
+    }
+    Ok(y)
+}
+
 // Every position of every audio channel, and the fault list. Refusals: 1, 2, 4.
 pub fn salvage(system: u32, frame: &[u8], samples: &mut [i32], list: &mut [u32]) -> Survey
     ensures { Salvaged system frame.now samples.old list.old result samples.new list.new }
 {
-    let Some(y) = layout::system_of(system) else {
-        return fault_list::refused(1);
+    let y = match refuse(system, frame, samples.len()) {
+        Ok(y) => y,
+        Err(cause) => return fault_list::refused(layout::number_of(cause)),
     };
-    let whole = frame.len() == layout::frame_bytes(y);
-    let room = samples.len() == 8 * (layout::positions(y) as usize);
-    if !whole {
-        return fault_list::refused(2);
-    }
-    if !room {
-        return fault_list::refused(4);
-    }
     let mut found = FaultList {
         numbers: list,
         total: 0,

@@ -25,16 +25,11 @@ use Rattle.rules_surveys.proofs.Calls.{sequence_4}
 use Rattle.fault_list.specs.declared.list.FaultList.{FaultList}
 use Rattle.fault_list.specs.Asked.{tallied, next_faults}
 use Rattle.fault_list.specs.Listed.{NotedIn}
-use Rattle.fault_list.proofs.Listing.{in_noted, in_size}
+use Rattle.fault_list.proofs.Listing.{in_noted, in_size, refused_by}
 use Rattle.fault_list.proofs.Next.{next_inside}
 use Rattle.surveys.specs.Asked.{SequenceKnown}
 
 -- ---- survey
-
--- a refusal, by its number
-refused_by : (number : ℕ) (fs : List Fault) (list : List ℕ) (n : ℕ) (r : Survey) → number ≡ n → (n ≡ 0 → ⊥) → r ≡ refusal n → Surveyed number fs list r list
-refused_by number fs list zero r e d er = absurd (d refl)
-refused_by number fs list (suc n) r e d er = survey_stopped number fs list n r e er
 
 module _ (k : ℕ) (frame list : List ℕ) where
   pub frame_stopped : (cause : Cause) → cause_number cause ≡ first_of (frame_rows k (length frame)) → (n : ℕ) → n ≡ cause_number cause → (r : Survey) → r ≡ refusal n → FrameSurveyed k frame list r list

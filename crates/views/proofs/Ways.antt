@@ -3,7 +3,7 @@ use Rattle.std.specs.Prelude.{Some}
 use mathlib.Core.Path.{◌≡◌, refl, sym, ◌∙◌}
 use mathlib.Core.List.{List}
 use mathlib.Core.Bool.{Bool, true, false, ◌||◌}
-use Prim.Native.Nat.{ℕ, ◌+◌, ◌*◌, ◌≤◌, ◌-◌}
+use Prim.Native.Nat.{ℕ, ◌+◌, ◌*◌, ◌≤◌, ◌<◌, ◌-◌}
 use native.Mathlib.Omega.{arith}
 use lib.Dec.{leb}
 use lib.ListN.{length, take, drop}
@@ -25,20 +25,21 @@ use Rattle.rules_format.specs.Faults.{fault_at}
 use Rattle.rules_surveys.specs.Survey.{outside_sequences}
 use Rattle.rules_surveys.specs.View.{view_number, ViewNumbered, Viewed, ViewLies}
 use Rattle.rules_format.proofs.Systems.{sequences_le}
-use Rattle.rules_format.proofs.Blocks.{start_within}
+use Rattle.rules_format.proofs.Blocks.{before_channel, start_within}
 use Rattle.rules_surveys.proofs.Calls.{inside_means, view_3, view_fault, view_lies_stopped, view_lies_found, view_lies_number}
 use Rattle.rules_surveys.proofs.Calls.{view_lies_within}
 use Rattle.views.specs.Asked.{InFrame, StartIs, FoundAt}
 
 -- ---- block_start
 
-pub start_is : (y : System) (h q p n : ℕ) → InFrame y h q p → n ≡ sequences_of y → StartIs y h q p (((n * h + q) * 150 + p) * 80)
-start_is y h q p n i e =
-    record {
-      is = rw e refl;
-      within = rw e (start_within y h q p i.channel i.sequence i.place);
-      small = rw e (omega (arith, start_within y h q p i.channel i.sequence i.place, sequences_le y));
-    }
+module _ (y : System) (h q p s : ℕ) (i : InFrame y h q p) (e : s ≡ (sequences_of y * h + q) * 12000) where
+  pub starts_below : s < 576000
+  starts_below = omega (arith, e, i.sequence, before_channel (sequences_of y) h i.channel, sequences_le y)
+
+  pub start_is : StartIs y h q p (s + p * 80)
+  start_is =
+      let within = start_within y h q p i.channel i.sequence i.place in
+      record { is = omega (arith, e); within = omega (arith, e, within); small = omega (arith, e, within, sequences_le y) }
 
 -- ---- viewed
 

@@ -11,7 +11,7 @@ pub loop-p-init : goal.loop-p-init
 loop-p-init c = run_zero _
 
 pub returns-in_err-fault_at : goal.returns-in_err-fault_at
-returns-in_err-fault_at c = handed_on (λ k. FirstFaultIs k (sequence_faults c.args.part.now c.args.h c.args.q)) _ c.in_err-fault_at.field-0.0 c.from_residual.ensures.1 (search (place_ends, never_zero, c.in_err-fault_at.ensures, rules))
+returns-in_err-fault_at c = handed_on (λ k. FirstFaultIs k (sequence_faults c.args.part.now c.args.dif.channel c.args.dif.sequence)) _ c.in_err-fault_at.field-0.0 c.from_residual.ensures.1 (search (place_ends, never_zero, c.in_err-fault_at.ensures, rules))
 
 pub loop-p-preserved : goal.loop-p-preserved
 loop-p-preserved c = search (place_clean, rules)

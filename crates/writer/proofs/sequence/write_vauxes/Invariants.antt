@@ -5,4 +5,4 @@ use Rattle.writer.specs.Blocks.{section_block}
 use Rattle.writer.proofs.sequence.write_vauxes.Given as goal
 
 abbrev pub invariant-loop-k : goal.invariant-loop-k
-invariant-loop-k l = Filled 80 (section_block l.h l.q Vaux (vaux_bytes l.vs l.vsc l.q)) l.k l.initial.part l.part
+invariant-loop-k l = Filled 80 (section_block l.dif.channel l.dif.sequence Vaux (vaux_bytes l.vs l.vsc l.dif.sequence)) l.k l.initial.part l.part

@@ -1,8 +1,8 @@
--- `rescue::half::rank_sequence` meets its contract: even audio channels start in the second half. Assumes nothing.
+-- `rescue::half::rank_dif` meets its contract: even audio channels start in the second half. Assumes nothing.
 use native.Mathlib.Omega.{arith}
 use borrow.Author.Rules.{rules}
 use Rattle.rescue.proofs.Halving.{q_is, q_small}
-use Rattle.rescue.proofs.half.rank_sequence.Goals as goal
+use Rattle.rescue.proofs.half.rank_dif.Goals as goal
 
 pub overflow_mul-result : goal.overflow_mul-result
 overflow_mul-result c = omega (arith, q_small _ c.args.i _ _ c.half.ensures c.requires)
