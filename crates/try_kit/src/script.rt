@@ -1,5 +1,5 @@
-// A script of tries: on a line a letter, a name and up to twelve numbers, in decimal or as 0x and upper-case hex digits, parted by one
-// space each. What stands behind a `#` or another byte below `$` is not read.
+// A script of tries: on a line a letter, a name and up to twelve numbers, in decimal or as 0x and hex digits, parted by one space each.
+// What stands behind a `#`, or behind any other byte below `$` but a space, is not read.
 ghost use Rattle.std.specs.Prelude.{◌<◌};
 
 use std::io;
@@ -27,7 +27,7 @@ struct Amount {
     value: u64,
 }
 
-// What a byte counts, of whatever kind it is.
+// Any byte counts as a digit.
 fn digit(b: u8) -> u64
     ensures { result < 32 }
 {
