@@ -33,39 +33,39 @@ fn step(
     frame: &mut [u8],
 ) -> io::Result<()> {
     match line.letter {
-        "w" => write(rt, line, numbers, macroblocks, frame),
-        "p" => changes::patched(rt, line, frame, numbers),
-        "n" => changes::replaced(rt, line, frame, numbers),
-        "k" => {
+        Some(b'w') => write(rt, line, numbers, macroblocks, frame),
+        Some(b'p') => changes::patched(rt, line, frame, numbers),
+        Some(b'n') => changes::replaced(rt, line, frame, numbers),
+        Some(b'k') => {
             changes::keep(line, frame);
             Ok(())
         }
-        "o" => {
+        Some(b'o') => {
             changes::over(line, frame);
             Ok(())
         }
-        "r" => {
+        Some(b'r') => {
             values::fill_rubbish(frame);
             Ok(())
         }
-        "t" => asks::tried(rt, line, frame, numbers),
-        "a" => asks::audio(rt, line, frame, numbers),
-        "m" => asks::macroblock(rt, line, frame),
-        "s" => asks::salvage(rt, line, frame, numbers),
-        "v" => asks::survey(rt, line, frame),
-        "c" => asks::channel(rt, line, numbers),
+        Some(b't') => asks::tried(rt, line, frame, numbers),
+        Some(b'a') => asks::audio(rt, line, frame, numbers),
+        Some(b'm') => asks::macroblock(rt, line, frame),
+        Some(b's') => asks::salvage(rt, line, frame, numbers),
+        Some(b'v') => asks::survey(rt, line, frame),
+        Some(b'c') => asks::channel(rt, line, numbers),
         _ => Ok(()),
     }
 }
 
 fn steps(
     rt: &impl Print,
-    text: &str,
+    script: &[u8],
     numbers: &mut [i32],
     macroblocks: &[u8],
     frame: &mut [u8],
 ) -> io::Result<()> {
-    for line in text.lines() {
+    for line in script.split(|b| *b == b'\n') {
         let line = script::parse(line);
         script::start(rt, line)?;
         step(rt, line, numbers, macroblocks, frame)?;
@@ -75,10 +75,10 @@ fn steps(
 
 fn main(rt: HostRuntime) -> io::Result<()> {
     let alloc = rt.alloc();
-    let text = io::read_to_string(alloc, rt.reader())?;
+    let script = script::read(&rt)?;
     let mut numbers = vec![in alloc; 0i32; 15553]?;
     let mut macroblocks = vec![in alloc; 0u8; 467775]?;
     let mut frame = vec![in alloc; 0u8; 576001]?;
     values::fill_macroblocks(&mut macroblocks);
-    steps(&rt, text.as_str(), &mut numbers, &macroblocks, &mut frame)
+    steps(&rt, &script, &mut numbers, &macroblocks, &mut frame)
 }

@@ -41,7 +41,7 @@ fn sample(rt: &impl Print, line: Line<'_>, frame: &[u8]) -> io::Result<()> {
     let place = Place(6 + 16 * (block % 9));
     let part = views::view(system, whole, 0, sequence, place);
     print!(rt; "\t{position}\t{sequence}\t{block}")?;
-    values::print_hex(rt, first(behind(part, byte as usize), 2))?;
+    values::print_hex(rt, first(behind(part, (byte % 79) as usize), 2))?;
     println!(rt)
 }
 
@@ -117,11 +117,11 @@ fn step(
     frame: &mut [u8],
 ) -> io::Result<()> {
     match line.letter {
-        "k" => known(rt, line, numbers, macroblocks, frame),
-        "b" => block(rt, line, frame),
-        "s" => sample(rt, line, frame),
-        "a" => refused(rt, line, numbers, macroblocks, frame),
-        "n" => {
+        Some(b'k') => known(rt, line, numbers, macroblocks, frame),
+        Some(b'b') => block(rt, line, frame),
+        Some(b's') => sample(rt, line, frame),
+        Some(b'a') => refused(rt, line, numbers, macroblocks, frame),
+        Some(b'n') => {
             number(line, numbers);
             Ok(())
         }
@@ -131,12 +131,12 @@ fn step(
 
 fn steps(
     rt: &impl Print,
-    text: &str,
+    script: &[u8],
     numbers: &mut [i32],
     macroblocks: &[u8],
     frame: &mut [u8],
 ) -> io::Result<()> {
-    for line in text.lines() {
+    for line in script.split(|b| *b == b'\n') {
         let line = script::parse(line);
         script::start(rt, line)?;
         step(rt, line, numbers, macroblocks, frame)?;
@@ -146,10 +146,10 @@ fn steps(
 
 fn main(rt: HostRuntime) -> io::Result<()> {
     let alloc = rt.alloc();
-    let text = io::read_to_string(alloc, rt.reader())?;
+    let script = script::read(&rt)?;
     let mut numbers = vec![in alloc; 0i32; 15360]?;
     let mut macroblocks = vec![in alloc; 0u8; 467775]?;
     let mut frame = vec![in alloc; 0u8; 576000]?;
     values::fill_macroblocks(&mut macroblocks);
-    steps(&rt, text.as_str(), &mut numbers, &macroblocks, &mut frame)
+    steps(&rt, &script, &mut numbers, &macroblocks, &mut frame)
 }
