@@ -9,22 +9,21 @@ ghost use Rattle.rules_format.specs.Systems.{sequences_of};
 ghost use Rattle.rules_surveys.specs.FaultLists.{frame_faults};
 ghost use Rattle.first_fault.specs.Asked.{FirstFaultIs, first_or_length};
 
-use layout::{CHANNELS, DifSequence, SEQUENCE};
+use layout::{CHANNELS, DifSequence, Frame, SEQUENCE};
 use paper::{Cause, System};
 
 // The first fault, sequence by sequence.
-fn first_in(frame: &[u8], y: System) -> Result<(), Cause>
-    requires { length frame.now ≡ 48000 * sequences_of y }
-    ensures { FirstFaultIs (number_said result) (frame_faults y frame.now) }
+fn first_in(frame: &Frame) -> Result<(), Cause>
+    ensures { FirstFaultIs (number_said result) (frame_faults frame.now.system frame.now.bytes.now) }
 {
-    let n = layout::sequences(y);
+    let n = layout::sequences(frame.system);
     for j in 0..n * CHANNELS {
         let at = (j as usize) * SEQUENCE;
         let dif = DifSequence {
             channel: j / n,
             sequence: j % n,
         };
-        sequence::first_sequence(&frame[at..at + SEQUENCE], dif)?;
+        sequence::first_sequence(&frame.bytes[at..at + SEQUENCE], dif)?;
     }
     Ok(())
 }
@@ -36,5 +35,9 @@ pub fn first_fault(y: System, frame: &[u8]) -> Result<(), Cause>
     if frame.len() != layout::frame_bytes(y) {
         return Err(Cause::FrameLength);
     }
-    first_in(frame, y)
+    let whole = Frame {
+        system: y,
+        bytes: frame,
+    };
+    first_in(&whole)
 }

@@ -2,6 +2,7 @@
 #![tactic(auto)]
 
 mod dif;
+mod frame;
 mod ids;
 mod parts;
 mod places;
@@ -9,6 +10,7 @@ mod refusals;
 mod systems;
 
 pub use dif::DifSequence;
+pub use frame::Frame;
 pub use ids::{id_bytes, read_block, read_id};
 pub use parts::no_part;
 pub use places::{entry_at, entry_of, place_in, place_of, printed_places, section_code};

@@ -61,12 +61,12 @@ module _ (y : System) (i r m : ℕ) (em : m ≡ half_of y) where
   start_is : m * i + r ≡ sequences_of y * dif_of (i + 1) + rank_sequence y i r
   start_is = omega (arith, ap (λ (a : ℕ). a * i) em, half_start y i)
 
-  module _ (frame : List ℕ) (asked : RankAsked frame y i r) where
+  module _ (frame : List ℕ) (asked : RankAsked y i r) where
     before_rank : m * i ≤ m * 7
     before_rank = mul-le-mul_left m (omega (arith, asked.channel))
 
-    pub rank_fits : (m * i + r) * 12000 + 12000 ≤ length frame
-    rank_fits = omega (arith, em, asked.whole, asked.rank, half_twice y, before_rank)
+    pub rank_fits : length frame ≡ 48000 * sequences_of y → (m * i + r) * 12000 + 12000 ≤ length frame
+    rank_fits w = omega (arith, em, w, asked.rank, half_twice y, before_rank)
 
     pub rank_small : m * i + r ≤ 48
     rank_small = omega (arith, em, before_rank, asked.rank, half_le (half_of y) (half_cases y))
@@ -77,7 +77,7 @@ module _ (y : System) (i r m : ℕ) (em : m ≡ half_of y) where
 
 -- ---- take_rank and survey_rank
 
-module _ (frame : List ℕ) (y : System) (i r : ℕ) (asked : RankAsked frame y i r) (part : List ℕ) (ep : part ≡ sequence_at y frame (dif_of (i + 1)) (rank_sequence y i r)) where
+module _ (frame : List ℕ) (y : System) (i r : ℕ) (asked : RankAsked y i r) (w : length frame ≡ 48000 * sequences_of y) (part : List ℕ) (ep : part ≡ sequence_at y frame (dif_of (i + 1)) (rank_sequence y i r)) where
   half_is : i / 2 ≡ dif_of (i + 1)
   half_is = omega arith
 
@@ -85,7 +85,7 @@ module _ (frame : List ℕ) (y : System) (i r : ℕ) (asked : RankAsked frame y 
   h_below = omega (arith, asked.channel)
 
   rank_long : length (sequence_at y frame (dif_of (i + 1)) (rank_sequence y i r)) ≡ 12000
-  rank_long = sequence_length y frame (dif_of (i + 1)) (rank_sequence y i r) asked.whole h_below (q_below y i r (half_of y) refl asked.rank)
+  rank_long = sequence_length y frame (dif_of (i + 1)) (rank_sequence y i r) w h_below (q_below y i r (half_of y) refl asked.rank)
 
   module _ (h q : ℕ) (eh : h ≡ i / 2) (eq : q ≡ rank_sequence y i r) where
     h_is : h ≡ dif_of (i + 1)
@@ -113,9 +113,9 @@ module _ (frame : List ℕ) (y : System) (i r : ℕ) (asked : RankAsked frame y 
 
 -- ---- take_half and salvage_half
 
-module _ (frame : List ℕ) (y : System) (i t r m : ℕ) (asked : HalfAsked frame y i t) (em : m ≡ half_of y) (l : r < m) where
-  pub rank_asked : RankAsked frame y i r
-  rank_asked = record { whole = asked.whole; channel = asked.channel; rank = omega (arith, em) }
+module _ (frame : List ℕ) (y : System) (i t r m : ℕ) (asked : HalfAsked i t) (em : m ≡ half_of y) (l : r < m) where
+  pub rank_asked : RankAsked y i r
+  rank_asked = record { channel = asked.channel; rank = omega (arith, em) }
 
   pub rank_few : (list list' : FaultList) → t ≡ list.total → NotedIn list (run (rank_faults y frame i) r) list' → list'.total ≤ 7200
   rank_few list list' et n = omega (arith, n.noted.total, asked.few, et, rank_le y frame i r, em, half_le (half_of y) (half_cases y))
@@ -169,8 +169,11 @@ module _ (y : System) (frame : List ℕ) (c : ℕ) (before : List ℤ) (b : Bool
     unfolding samples_fit
     room_fits = leb-true _ _ (both_held (ltb 0 c && ltb c 9) _ (both_held (eqb (length frame) (48000 * sequences_of y)) _ fit).1).1
 
-    pub half_asked : HalfAsked frame y (c - 1) 0
-    half_asked = record { whole = whole; channel = omega (arith, audio.0, audio.1); few = omega arith }
+    pub frame_whole : length frame ≡ 48000 * sequences_of y
+    frame_whole = whole
+
+    pub half_asked : HalfAsked (c - 1) 0
+    half_asked = record { channel = omega (arith, audio.0, audio.1); few = omega arith }
 
     pub samples_left_lem : (now : List ℤ) → Between (half_of y) 0 (9 * half_of y) (held_sample y frame (c - 1 + 1)) before now → now ≡ samples_left y frame c before
     unfolding samples_left

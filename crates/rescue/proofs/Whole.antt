@@ -32,7 +32,7 @@ use Rattle.fault_list.specs.Listed.{NotedIn}
 use Rattle.fault_list.proofs.Listing.{in_turn, in_noted, in_size, refused_by}
 use Rattle.sequence_samples.proofs.Between.{between_all}
 use Rattle.rescue.specs.Taken.{held_sample, half_samples, half_faults}
-use Rattle.rescue.specs.Asked.{HalfAsked, HalfSalvaged, FrameAsked, FrameSalvaged, LentKnown}
+use Rattle.rescue.specs.Asked.{HalfAsked, HalfSalvaged, FrameSalvaged, LentKnown}
 use Rattle.paper.specs.declared.Cause.{Cause}
 use Rattle.paper.specs.Causes.{cause_number}
 use Rattle.layout.specs.Asked.{FrameKnown, frame_rows}
@@ -62,9 +62,9 @@ module _ (y : System) (i n : ℕ) (en : n ≡ positions_of y) (hi : i < 8) where
   pub bytes_fit : Fits w64 (i * n * 4)
   bytes_fit = omega (arith, size_end, positions_le y)
 
-  module _ (frame : List ℕ) (before now : List ℤ) (asked : FrameAsked frame y (length before)) (same : length now ≡ length before) where
+  module _ (frame : List ℕ) (before now : List ℤ) (samples : length before ≡ 8 * positions_of y) (same : length now ≡ length before) where
     pub half_within : i * n + n ≤ length now
-    half_within = omega (arith, size_end, asked.samples)
+    half_within = omega (arith, size_end, samples)
 
     half_long : length (take (i * n + n - i * n) (drop (i * n) now)) ≡ positions_of y
     half_long = ap length (range_part (i * n) n now) ∙ length_part (i * n) n now half_within ∙ en
@@ -80,21 +80,21 @@ module _ (y : System) (i n : ℕ) (en : n ≡ positions_of y) (hi : i < 8) where
         filled_next n _ (channel_wide y frame n en) i before now ys f
         (between_all (half_of y) _ _ ys (half_cases y) p.sound ∙ ap (tab (held_sample y frame (i + 1))) half_long)
 
-  pub half_asked : (frame : List ℕ) (size : ℕ) (list list' : FaultList) → FrameAsked frame y size → list.total ≡ 0 → NotedIn list (run (half_faults y frame) i) list' → HalfAsked frame y i list'.total
+  pub half_asked : (frame : List ℕ) (list list' : FaultList) → list.total ≡ 0 → NotedIn list (run (half_faults y frame) i) list' → HalfAsked i list'.total
   unfolding half_faults
-  half_asked frame size list list' asked z m = record { whole = asked.whole; channel = hi; few = omega (arith, m.noted.total, z, halves_le y frame i) }
+  half_asked frame list list' z m = record { channel = hi; few = omega (arith, m.noted.total, z, halves_le y frame i) }
 
 pub half_noted : (y : System) (frame : List ℕ) (i : ℕ) (part ys : List ℤ) (list list' list'' : FaultList) → NotedIn list (run (half_faults y frame) i) list' → HalfSalvaged y frame i part ys list' list''
     → NotedIn list (run (half_faults y frame) (i + 1)) list''
 half_noted y frame i part ys list list' list'' m p = in_turn (half_faults y frame) i m p.noted
 
-pub all_salvaged : (y : System) (frame : List ℕ) (n i : ℕ) (before now : List ℤ) (list list' : FaultList) → n ≡ positions_of y → FrameAsked frame y (length before) → i ≤ 8 → 8 ≤ i
+pub all_salvaged : (y : System) (frame : List ℕ) (n i : ℕ) (before now : List ℤ) (list list' : FaultList) → n ≡ positions_of y → length before ≡ 8 * positions_of y → i ≤ 8 → 8 ≤ i
     → Filled n (half_samples y frame) i before now → NotedIn list (run (half_faults y frame) i) list' → FrameSalvaged y frame now list list'
 unfolding salvaged half_samples half_faults
-all_salvaged y frame n i before now list list' en asked le ge f m =
+all_salvaged y frame n i before now list list' en samples le ge f m =
     let e : i ≡ 8 = omega arith in
     record {
-      sound = filled_end n _ i 8 before now f (asked.samples ∙ ap (λ (j : ℕ). 8 * j) (sym en)) le ge;
+      sound = filled_end n _ i 8 before now f (samples ∙ ap (λ (j : ℕ). 8 * j) (sym en)) le ge;
       noted = rw (faults_halves y frame) (rw e at m);
     }
 
@@ -117,9 +117,6 @@ module _ (k : ℕ) (frame : List ℕ) (size : ℕ) where
 
     pub lent_known : size ≡ 8 * m → LentKnown k frame size y
     lent_known e = record { lies = is; room = e ∙ ap (λ (n : ℕ). 8 * n) em }
-
-pub frame_asked : (k : ℕ) (frame : List ℕ) (size : ℕ) (y : System) → LentKnown k frame size y → FrameAsked frame y size
-frame_asked k frame size y is = record { whole = is.lies.whole; samples = is.room }
 
 module _ (k : ℕ) (frame : List ℕ) (samples : List ℤ) (list : List ℕ) where
   pub salvage_stopped : (cause : Cause) → cause_number cause ≡ salvage_number k frame (length samples) → (n : ℕ) → n ≡ cause_number cause → (r : Survey) → r ≡ refusal n

@@ -11,14 +11,12 @@ use Rattle.sequence_samples.specs.Taken.{Between}
 use Rattle.rescue.specs.Taken.{held_sample, half_faults}
 
 -- the sequence of rank r of audio channel i + 1
-pub record RankAsked (frame : List ℕ) (y : System) (i r : ℕ) : Type 0 where
-  pub whole : length frame ≡ 48000 * sequences_of y
+pub record RankAsked (y : System) (i r : ℕ) : Type 0 where
   pub channel : i < 8
   pub rank : r < half_of y
 
 -- audio channel i + 1, where t faults came before
-pub record HalfAsked (frame : List ℕ) (y : System) (i t : ℕ) : Type 0 where
-  pub whole : length frame ≡ 48000 * sequences_of y
+pub record HalfAsked (i t : ℕ) : Type 0 where
   pub channel : i < 8
   pub few : t ≤ 6300
 
@@ -26,10 +24,6 @@ pub record HalfAsked (frame : List ℕ) (y : System) (i t : ℕ) : Type 0 where
 pub record HalfSalvaged (y : System) (frame : List ℕ) (i : ℕ) (samples samples' : List ℤ) (list list' : FaultList) : Type 0 where
   pub sound : Between (half_of y) 0 (9 * half_of y) (held_sample y frame (i + 1)) samples samples'
   pub noted : NotedIn list (half_faults y frame i) list'
-
-pub record FrameAsked (frame : List ℕ) (y : System) (size : ℕ) : Type 0 where
-  pub whole : length frame ≡ 48000 * sequences_of y
-  pub samples : size ≡ 8 * positions_of y
 
 -- the sound of every audio channel, and the faults of the frame
 pub record FrameSalvaged (y : System) (frame : List ℕ) (samples' : List ℤ) (list list' : FaultList) : Type 0 where

@@ -1,24 +1,26 @@
 // The call: its refusals in their order, then the audio channels one after the other.
-ghost use Rattle.std.specs.Prelude.{◌≡◌, IfOk, length};
+ghost use Rattle.std.specs.Prelude.{◌≡◌, ◌*◌, IfOk, length};
+ghost use Rattle.rules_format.specs.Systems.{positions_of};
 ghost use Rattle.paper.specs.Causes.{number_said};
 ghost use Rattle.rules_surveys.specs.Salvage.{salvage_number, Salvaged};
-ghost use Rattle.rescue.specs.Asked.{FrameAsked, FrameSalvaged, LentKnown};
+ghost use Rattle.rescue.specs.Asked.{FrameSalvaged, LentKnown};
 
 use crate::half;
 use fault_list::FaultList;
+use layout::Frame;
 use paper::{Cause, Survey, System};
 
 // Every audio channel.
-fn salvage_all(frame: &[u8], y: System, samples: &mut [i32], list: &mut FaultList)
-    requires frame_asked { FrameAsked frame.now y (length samples.old) }
+fn salvage_all(frame: &Frame, samples: &mut [i32], list: &mut FaultList)
+    requires room { length samples.old ≡ 8 * positions_of frame.now.system }
     requires first { list.old.total ≡ 0 }
-    ensures { FrameSalvaged y frame.now samples.new list.old list.new }
+    ensures { FrameSalvaged frame.now.system frame.now.bytes.now samples.new list.old list.new }
 {
-    let size = layout::positions(y) as usize;
+    let size = layout::positions(frame.system) as usize;
     for i in 0..8u32 {
         let at = (i as usize) * size;
         let to = at + size;
-        half::salvage_half(frame, y, i, &mut samples[at..to], list);
+        half::salvage_half(frame, i, &mut samples[at..to], list);
     }
 }
 
@@ -46,6 +48,10 @@ pub fn salvage(system: u32, frame: &[u8], samples: &mut [i32], list: &mut [u32])
         numbers: list,
         total: 0,
     };
-    salvage_all(frame, y, samples, &mut found);
+    let whole = Frame {
+        system: y,
+        bytes: frame,
+    };
+    salvage_all(&whole, samples, &mut found);
     found.answered()
 }

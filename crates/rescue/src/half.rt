@@ -9,16 +9,16 @@ ghost use Rattle.rescue.specs.Taken.{held_sample, samples_fit, samples_left, ran
 ghost use Rattle.rescue.specs.Asked.{RankAsked, HalfAsked, HalfSalvaged};
 
 use fault_list::FaultList;
-use layout::{DifSequence, SEQUENCE};
+use layout::{DifSequence, Frame, SEQUENCE};
 use paper::System;
 
 // The bytes of the sequence of rank r.
-fn rank_part(frame: &[u8], y: System, i: u32, r: u32) -> &[u8]
-    requires { RankAsked frame.now y i r }
-    ensures { result.now ≡ sequence_at y frame.now (dif_of (i + 1)) (rank_sequence y i r) }
+fn rank_part<'a>(frame: &Frame<'a>, i: u32, r: u32) -> &'a [u8]
+    requires { RankAsked frame.now.system i r }
+    ensures { result.now ≡ sequence_at frame.now.system frame.now.bytes.now (dif_of (i + 1)) (rank_sequence frame.now.system i r) }
 {
-    let at = ((layout::half(y) * i + r) as usize) * SEQUENCE;
-    &frame[at..at + SEQUENCE]
+    let at = ((layout::half(frame.system) * i + r) as usize) * SEQUENCE;
+    &frame.bytes[at..at + SEQUENCE]
 }
 
 // Its DIF channel, and its number there.
@@ -34,51 +34,45 @@ fn rank_dif(y: System, i: u32, r: u32) -> DifSequence
 }
 
 // Its samples.
-fn take_rank(frame: &[u8], y: System, i: u32, r: u32, samples: &mut [i32])
-    requires rank_asked { RankAsked frame.now y i r }
-    requires samples_len_bound { length samples.old ≤ positions_of y }
-    ensures { Between (half_of y) (9 * r) (9 * r + 9) (held_sample y frame.now (i + 1)) samples.old samples.new }
+fn take_rank(frame: &Frame, i: u32, r: u32, samples: &mut [i32])
+    requires rank_asked { RankAsked frame.now.system i r }
+    requires samples_len_bound { length samples.old ≤ positions_of frame.now.system }
+    ensures { Between (half_of frame.now.system) (9 * r) (9 * r + 9) (held_sample frame.now.system frame.now.bytes.now (i + 1)) samples.old samples.new }
 {
-    let part = rank_part(frame, y, i, r);
-    sequence_samples::take_sequence(part, y, rank_dif(y, i, r), samples);
+    let part = rank_part(frame, i, r);
+    sequence_samples::take_sequence(part, frame.system, rank_dif(frame.system, i, r), samples);
 }
 
 // Its faults.
-fn survey_rank(frame: &[u8], y: System, i: u32, r: u32, list: &mut FaultList)
-    requires rank_asked { RankAsked frame.now y i r }
+fn survey_rank(frame: &Frame, i: u32, r: u32, list: &mut FaultList)
+    requires rank_asked { RankAsked frame.now.system i r }
     requires t_bound { list.old.total ≤ 7200 }
-    ensures { NotedIn list.old (rank_faults y frame.now i r) list.new }
+    ensures { NotedIn list.old (rank_faults frame.now.system frame.now.bytes.now i r) list.new }
 {
-    let part = rank_part(frame, y, i, r);
-    list.survey_next(y, rank_dif(y, i, r), part);
+    let part = rank_part(frame, i, r);
+    list.survey_next(frame.system, rank_dif(frame.system, i, r), part);
 }
 
 // The samples of an audio channel.
-fn take_half(frame: &[u8], y: System, i: u32, samples: &mut [i32])
-    requires half_asked { HalfAsked frame.now y i 0 }
-    requires samples_len_bound { length samples.old ≤ positions_of y }
-    ensures { Between (half_of y) 0 (9 * half_of y) (held_sample y frame.now (i + 1)) samples.old samples.new }
+fn take_half(frame: &Frame, i: u32, samples: &mut [i32])
+    requires half_asked { HalfAsked i 0 }
+    requires samples_len_bound { length samples.old ≤ positions_of frame.now.system }
+    ensures { Between (half_of frame.now.system) 0 (9 * half_of frame.now.system) (held_sample frame.now.system frame.now.bytes.now (i + 1)) samples.old samples.new }
 {
-    for r in 0..layout::half(y) {
-        take_rank(frame, y, i, r, samples);
+    for r in 0..layout::half(frame.system) {
+        take_rank(frame, i, r, samples);
     }
 }
 
 // The samples and the faults of an audio channel, in one pass.
-pub(crate) fn salvage_half(
-    frame: &[u8],
-    y: System,
-    i: u32,
-    samples: &mut [i32],
-    list: &mut FaultList,
-)
-    requires half_asked { HalfAsked frame.now y i list.old.total }
-    requires samples_len_bound { length samples.old ≤ positions_of y }
-    ensures { HalfSalvaged y frame.now i samples.old samples.new list.old list.new }
+pub(crate) fn salvage_half(frame: &Frame, i: u32, samples: &mut [i32], list: &mut FaultList)
+    requires half_asked { HalfAsked i list.old.total }
+    requires samples_len_bound { length samples.old ≤ positions_of frame.now.system }
+    ensures { HalfSalvaged frame.now.system frame.now.bytes.now i samples.old samples.new list.old list.new }
 {
-    for r in 0..layout::half(y) {
-        survey_rank(frame, y, i, r, list);
-        take_rank(frame, y, i, r, samples);
+    for r in 0..layout::half(frame.system) {
+        survey_rank(frame, i, r, list);
+        take_rank(frame, i, r, samples);
     }
 }
 
@@ -97,5 +91,9 @@ pub fn samples_of(y: System, frame: &[u8], audio: u32, samples: &mut [i32])
     if !samples_fit(y, frame.len(), audio, samples.len()) {
         return;
     }
-    take_half(frame, y, audio - 1, samples);
+    let whole = Frame {
+        system: y,
+        bytes: frame,
+    };
+    take_half(&whole, audio - 1, samples);
 }

@@ -18,16 +18,16 @@ use Rattle.fault_list.specs.Asked.{next_faults}
 use Rattle.fault_list.specs.Listed.{NotedIn}
 use Rattle.fault_list.proofs.Listing.{in_turn}
 use Rattle.fault_list.proofs.Next.{next_inside}
-use Rattle.surveys.specs.Asked.{PartAsked, ChannelAsked, FrameAsked}
+use Rattle.surveys.specs.Asked.{PartAsked, ChannelAsked}
 
 -- ---- part_of: m is what `sequences` answers
 
-module _ (frame : List ℕ) (y : System) (h q m : ℕ) (a : PartAsked frame y h q) (em : m ≡ sequences_of y) where
+module _ (frame : List ℕ) (y : System) (h q m : ℕ) (a : PartAsked y h q) (w : length frame ≡ 48000 * sequences_of y) (em : m ≡ sequences_of y) where
   before : m * h ≤ m * 3
   before = before_channel m h a.channel
 
   pub part_fits : (m * h + q) * 12000 + 12000 ≤ length frame
-  part_fits = omega (arith, before, a.whole, a.sequence, em)
+  part_fits = omega (arith, before, w, a.sequence, em)
 
   pub part_cut : take ((m * h + q) * 12000 + 12000 - (m * h + q) * 12000) (drop ((m * h + q) * 12000) frame) ≡ sequence_at y frame h q
   unfolding sequence_at
@@ -35,15 +35,15 @@ module _ (frame : List ℕ) (y : System) (h q m : ℕ) (a : PartAsked frame y h 
 
 -- ---- survey_channel: sequence q of the m of a DIF channel
 
-module _ (frame : List ℕ) (y : System) (h t m q : ℕ) (a : ChannelAsked frame y h t) (em : m ≡ sequences_of y) (l : q < m) where
-  pub part_asked : PartAsked frame y h q
-  part_asked = record { whole = a.whole; channel = a.channel; sequence = omega (arith, em) }
+module _ (frame : List ℕ) (y : System) (h t m q : ℕ) (a : ChannelAsked h t) (w : length frame ≡ 48000 * sequences_of y) (em : m ≡ sequences_of y) (l : q < m) where
+  pub part_asked : PartAsked y h q
+  part_asked = record { channel = a.channel; sequence = omega (arith, em) }
 
   pub part_turn : (part : List ℕ) (list list' list'' : FaultList) → t ≡ list.total → NotedIn list (run (part_faults y frame h) q) list' → part ≡ sequence_at y frame h q
       → NotedIn list' (next_faults y h q part list'.total) list'' → NotedIn list (run (part_faults y frame h) (q + 1)) list''
   part_turn part list list' list'' et n e k =
       let few : list'.total < 8000 = omega (arith, n.noted.total, a.few, et, parts_le y frame h q, em, sequences_le y) in
-      let inside = next_inside y h q (sequence_at y frame h q) list'.total a.channel (omega (arith, em)) (sequence_length y frame h q a.whole a.channel (omega (arith, em))) few in
+      let inside = next_inside y h q (sequence_at y frame h q) list'.total a.channel (omega (arith, em)) (sequence_length y frame h q w a.channel (omega (arith, em))) few in
       in_turn (part_faults y frame h) q n (rw inside at (rw e at k))
 
 pub parts_done : (frame : List ℕ) (y : System) (h m q : ℕ) (list list' : FaultList) → m ≡ sequences_of y → q ≤ m → m ≤ q → NotedIn list (run (part_faults y frame h) q) list'
@@ -53,9 +53,9 @@ parts_done frame y h m q list list' em a b n = let e : q ≡ sequences_of y = om
 
 -- ---- survey_all: DIF channel h
 
-module _ (frame : List ℕ) (y : System) (h : ℕ) (list list' : FaultList) (asked : FrameAsked frame y list.total) (l : h < 4) (n : NotedIn list (run (channel_faults y frame) h) list') where
-  pub channel_asked : ChannelAsked frame y h list'.total
-  channel_asked = record { whole = asked.whole; channel = l; few = omega (arith, n.noted.total, asked.first, channels_le y frame h) }
+module _ (frame : List ℕ) (y : System) (h : ℕ) (list list' : FaultList) (first : list.total ≡ 0) (l : h < 4) (n : NotedIn list (run (channel_faults y frame) h) list') where
+  pub channel_asked : ChannelAsked h list'.total
+  channel_asked = record { channel = l; few = omega (arith, n.noted.total, first, channels_le y frame h) }
 
   pub channel_turn : (list'' : FaultList) → NotedIn list' (channel_faults y frame h) list'' → NotedIn list (run (channel_faults y frame) (h + 1)) list''
   channel_turn list'' k = in_turn (channel_faults y frame) h n k

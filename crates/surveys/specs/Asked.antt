@@ -5,21 +5,14 @@ use Rattle.rules_format.specs.Systems.{sequences_of, system_of}
 use Rattle.rules_surveys.specs.Survey.{outside_sequences}
 
 -- sequence q of DIF channel h
-pub record PartAsked (frame : List ℕ) (y : System) (h q : ℕ) : Type 0 where
-  pub whole : length frame ≡ 48000 * sequences_of y
+pub record PartAsked (y : System) (h q : ℕ) : Type 0 where
   pub channel : h < 4
   pub sequence : q < sequences_of y
 
 -- DIF channel h, where t faults came before
-pub record ChannelAsked (frame : List ℕ) (y : System) (h t : ℕ) : Type 0 where
-  pub whole : length frame ≡ 48000 * sequences_of y
+pub record ChannelAsked (h t : ℕ) : Type 0 where
   pub channel : h < 4
   pub few : t < 6000
-
--- a frame, before any fault
-pub record FrameAsked (frame : List ℕ) (y : System) (t : ℕ) : Type 0 where
-  pub whole : length frame ≡ 48000 * sequences_of y
-  pub first : t ≡ 0
 
 -- sequence q of DIF channel h is one of system k's, which is y, and has so many bytes
 pub record SequenceKnown (k h q bytes : ℕ) (y : System) : Type 0 where

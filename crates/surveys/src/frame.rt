@@ -4,42 +4,42 @@ ghost use Rattle.rules_format.specs.Blocks.{sequence_at};
 ghost use Rattle.rules_surveys.specs.FaultLists.{channel_faults, frame_faults};
 ghost use Rattle.rules_surveys.specs.Survey.{FrameSurveyed};
 ghost use Rattle.fault_list.specs.Listed.{NotedIn};
-ghost use Rattle.surveys.specs.Asked.{PartAsked, ChannelAsked, FrameAsked};
+ghost use Rattle.surveys.specs.Asked.{PartAsked, ChannelAsked};
 
 use fault_list::FaultList;
-use layout::{CHANNELS, DifSequence, SEQUENCE};
-use paper::{Survey, System};
+use layout::{CHANNELS, DifSequence, Frame, SEQUENCE};
+use paper::Survey;
 
 // The bytes of sequence q of DIF channel h.
-fn part_of(frame: &[u8], y: System, dif: DifSequence) -> &[u8]
-    requires { PartAsked frame.now y dif.channel dif.sequence }
-    ensures { result.now ≡ sequence_at y frame.now dif.channel dif.sequence }
+fn part_of<'a>(frame: &Frame<'a>, dif: DifSequence) -> &'a [u8]
+    requires { PartAsked frame.now.system dif.channel dif.sequence }
+    ensures { result.now ≡ sequence_at frame.now.system frame.now.bytes.now dif.channel dif.sequence }
 {
-    let at = dif.start(y);
-    &frame[at..at + SEQUENCE]
+    let at = dif.start(frame.system);
+    &frame.bytes[at..at + SEQUENCE]
 }
 
 // The survey of one DIF channel.
-fn survey_channel(frame: &[u8], y: System, h: u32, list: &mut FaultList)
-    requires { ChannelAsked frame.now y h list.old.total }
-    ensures { NotedIn list.old (channel_faults y frame.now h) list.new }
+fn survey_channel(frame: &Frame, h: u32, list: &mut FaultList)
+    requires { ChannelAsked h list.old.total }
+    ensures { NotedIn list.old (channel_faults frame.now.system frame.now.bytes.now h) list.new }
 {
-    for q in 0..layout::sequences(y) {
+    for q in 0..layout::sequences(frame.system) {
         let dif = DifSequence {
             channel: h,
             sequence: q,
         };
-        list.survey_next(y, dif, part_of(frame, y, dif));
+        list.survey_next(frame.system, dif, part_of(frame, dif));
     }
 }
 
 // The survey of a frame.
-fn survey_all(frame: &[u8], y: System, list: &mut FaultList)
-    requires { FrameAsked frame.now y list.old.total }
-    ensures { NotedIn list.old (frame_faults y frame.now) list.new }
+fn survey_all(frame: &Frame, list: &mut FaultList)
+    requires { list.old.total ≡ 0 }
+    ensures { NotedIn list.old (frame_faults frame.now.system frame.now.bytes.now) list.new }
 {
     for h in 0..CHANNELS {
-        survey_channel(frame, y, h, list);
+        survey_channel(frame, h, list);
     }
 }
 
@@ -55,6 +55,10 @@ pub fn survey(system: u32, frame: &[u8], list: &mut [u32]) -> Survey
         numbers: list,
         total: 0,
     };
-    survey_all(frame, y, &mut found);
+    let whole = Frame {
+        system: y,
+        bytes: frame,
+    };
+    survey_all(&whole, &mut found);
     found.answered()
 }

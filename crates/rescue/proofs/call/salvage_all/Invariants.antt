@@ -7,4 +7,4 @@ use Rattle.rescue.specs.Taken.{half_samples, half_faults}
 use Rattle.rescue.proofs.call.salvage_all.Given as goal
 
 abbrev pub invariant-loop-i : goal.invariant-loop-i
-invariant-loop-i l = Filled l.size (half_samples l.y l.frame) l.i l.initial.samples l.samples × NotedIn l.initial.list (run (half_faults l.y l.frame) l.i) l.list × (length l.samples ≡ length l.initial.samples)
+invariant-loop-i l = Filled l.size (half_samples l.frame.system l.frame.bytes.now) l.i l.initial.samples l.samples × NotedIn l.initial.list (run (half_faults l.frame.system l.frame.bytes.now) l.i) l.list × (length l.samples ≡ length l.initial.samples)

@@ -4,4 +4,4 @@ use Rattle.fault_list.specs.Listed.{NotedIn}
 use Rattle.surveys.proofs.frame.survey_all.Given as goal
 
 abbrev pub invariant-loop-h : goal.invariant-loop-h
-invariant-loop-h l = NotedIn l.initial.list (run (channel_faults l.y l.frame) l.h) l.list
+invariant-loop-h l = NotedIn l.initial.list (run (channel_faults l.frame.system l.frame.bytes.now) l.h) l.list

@@ -6,4 +6,4 @@ use Rattle.rules_format.specs.Systems.{sequences_of}
 use Rattle.surveys.proofs.frame.survey_channel.Given as goal
 
 abbrev pub invariant-loop-q : goal.invariant-loop-q
-invariant-loop-q l = (l.q-end ≡ sequences_of l.y) × NotedIn l.initial.list (run (part_faults l.y l.frame l.h) l.q) l.list
+invariant-loop-q l = (l.q-end ≡ sequences_of l.frame.system) × NotedIn l.initial.list (run (part_faults l.frame.system l.frame.bytes.now l.h) l.q) l.list
