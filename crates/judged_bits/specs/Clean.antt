@@ -1,16 +1,28 @@
 -- What is asked of blocks whose judged bits are compared with their places', and what such a comparison says.
-use Rattle.std.specs.Prelude.{◌≡◌, Bool, true, false, List, [], ℕ, ◌≤◌, ◌<◌, length}
+use Rattle.std.specs.Prelude.{◌≡◌, Bool, true, false, ◌&&◌, ◌||◌, not, List, [], ℕ, ◌+◌, ◌≤◌, ◌<◌, eqb, ltb, length}
+use Rattle.base.specs.Below.{below}
 use Rattle.paper.specs.declared.IdAnswer.{IdAnswer}
 use Rattle.paper.specs.declared.IdAnswer.TheVariants.{Named, Reserved, WrongLength}
 use Rattle.paper.specs.declared.Fault.{Fault}
 use Rattle.rules_format.specs.Places.{place, entry_at}
-use Rattle.rules_format.specs.Judging.{printed, key_of}
+use Rattle.rules_format.specs.Blocks.{block_in}
+use Rattle.rules_format.specs.Ids.{block_answer}
+use Rattle.rules_format.specs.Judging.{judged_bits, printed, key_of}
 
 -- whether an ID names a block at all
 abbrev pub is_named : IdAnswer → Bool
 is_named (Named b s) = true
 is_named Reserved = false
 is_named WrongLength = false
+
+-- whether the judged bits of the block at place p of a sequence are its place's and, where that is asked, its ID names a block
+unfoldable pub clear_at : Bool → List ℕ → ℕ → ℕ → ℕ → Bool
+clear_at ask part h q p =
+    (not ask || is_named (block_answer (block_in part p))) && eqb (judged_bits (block_in part p)) (printed (entry_at (place p)) + key_of h q)
+
+-- whether all 150 blocks of a sequence are so; no other part is clear, nor one of another DIF channel or sequence than there are
+unfoldable pub all_clear : Bool → List ℕ → ℕ → ℕ → Bool
+all_clear ask part h q = eqb (length part) 12000 && (ltb h 4 && (ltb q 16 && below (clear_at ask part h q) 150))
 
 -- h is a DIF channel, and q a number that Dseq can hold
 pub record InSequence (h q : ℕ) : Type 0 where

@@ -1,7 +1,7 @@
 // Whether a sequence has no fault.
 ghost use Rattle.std.specs.Prelude.{◌≡◌};
 ghost use Rattle.rules_surveys.specs.FaultLists.{sequence_faults};
-ghost use Rattle.judged_bits.specs.Clean.{is_named, Clean};
+ghost use Rattle.judged_bits.specs.Clean.{is_named, all_clear, Clean};
 
 use layout::{BLOCK, CHANNELS, DifSequence, PLACES, SEQUENCE};
 use paper::IdAnswer;
@@ -16,7 +16,8 @@ fn is_named(id: IdAnswer) -> bool
 // Whether the judged bits of every block's ID are its place's and, where ASK, the ID reader names a block too. No early return in
 // the loop, and the bits are asked before the ID, so that a block costs few instructions.
 pub fn clean_part<const ASK: bool>(part: &[u8], dif: DifSequence) -> bool
-    ensures { Clean result (sequence_faults part.now dif.channel dif.sequence) }
+    ensures is { result ≡ all_clear ASK part.now dif.channel dif.sequence }
+    ensures clean { Clean result (sequence_faults part.now dif.channel dif.sequence) }
 {
     if part.len() != SEQUENCE || CHANNELS <= dif.channel || 16 <= dif.sequence {
         return false;
