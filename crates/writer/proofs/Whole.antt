@@ -1,5 +1,4 @@
 -- Each way out of the writers of a sequence, a DIF channel and the frame, and of the call. Assumes nothing.
-use Rattle.std.specs.Prelude.{Option, Some, None}
 use mathlib.Core.Path.{◌≡◌, refl, sym, ap, ap₂, ◌∙◌, subst}
 use mathlib.Core.Bool.{Bool, true}
 use mathlib.Core.List.{List, ◌++◌, append-nil, append_assoc}
@@ -33,7 +32,7 @@ use Rattle.paper.specs.declared.BlockId.{BlockId}
 use Rattle.paper.specs.declared.Pack.{Pack}
 use Rattle.paper.specs.declared.SubcodeData.{SubcodeData}
 use Rattle.paper.specs.declared.Repeated.{Repeated}
-use Rattle.rules_format.specs.Systems.{sequences_of, half_of, is_count, macroblocks_of, system_of}
+use Rattle.rules_format.specs.Systems.{sequences_of, half_of, is_count, macroblocks_of}
 use Rattle.rules_format.specs.Places.{blocks_of, place, entry_at, place_in, place_for}
 use Rattle.rules_format.specs.Ids.{id_bytes, id_of}
 use Rattle.rules_format.specs.Sound.{audio_at}
@@ -50,10 +49,9 @@ use Rattle.rules_format.proofs.Places.{entry_place_in, place_for_lem, place_for_
 use Rattle.rules_format.proofs.Sound.{Half, audio_within}
 use Rattle.rules_packs.proofs.Packs.{header_length}
 use Rattle.rules_packs.proofs.Subcode.{subcode_length}
-use Rattle.rules_packs.proofs.Vaux.{vaux_length}
 use Rattle.rules_writes.proofs.Written
 use Rattle.rules_writes.proofs.Written.{audio_length, video_length, block_entry, sequence_wide, channel_wide, samples_end, samples_length}
-use Rattle.rules_writes.proofs.Write.{write_1, taken_takes, write_stopped, write_done}
+use Rattle.rules_writes.proofs.Write.{taken_takes, write_stopped, write_done}
 use Rattle.blocks.specs.Fits.{number_fits, audio_fits, video_fits}
 use Rattle.writer.specs.Asked.{ChannelAsked, SamplesAsked, VideosAsked, BankAsked, SequenceAsked, ChannelPartAsked}
 use Rattle.writer.specs.Blocks.{section_block, first_blocks, head_blocks, video_blocks, bank_blocks}
@@ -133,7 +131,12 @@ behind_first_video a v ha ev =
     let at : (place_for Audio (record { 0 = a })).0 + 1 ≡ place_in Video (15 * a) = omega (arith, bank_stands a (place_for Audio (record { 0 = a })) refl ha) in
     ev ∙ ap (λ (n : ℕ). (entry_at (place n)).number.0) at ∙ ap (λ (x : Entry). x.number.0) (entry_place_in Video (15 * a) (omega arith))
 
--- ---- blocks of a section, one after the other
+-- ---- blocks, one after the other
+
+-- block k of n comes back from its writer
+pub blocks_turn : (bytes : ℕ → List ℕ) → Wide 80 bytes → (k n : ℕ) (d xs ys : List ℕ) → Filled 80 bytes k d xs → k < n → length d ≡ n * 80 → length xs ≡ length d
+    → (length (take (k * 80 + 80 - k * 80) (drop (k * 80) xs)) ≡ 80 → ys ≡ bytes k) → Filled 80 bytes (k + 1) d (put_mid (k * 80) (k * 80 + 80 - k * 80) xs ys)
+blocks_turn bytes wide k n d xs ys ex hk len same ey = filled_next 80 bytes wide k d xs ys ex (ey (part_long xs (k * 80) 80 (omega (arith, same, len))))
 
 -- what fits is written
 written : (b : Bool) (ws ps zs : List ℕ) → b ≡ true → zs ≡ pick b ws ps → zs ≡ ws
@@ -142,41 +145,18 @@ written b ws ps zs e ez = ez ∙ pick_true ws ps e
 number_fits_lem : (n k m : ℕ) → n ≡ 80 → k < m → number_fits n k m ≡ true
 number_fits_lem n k m e l = rw (eq-eqb _ _ e, lt-ltb _ _ l) refl
 
-block_wide : (h q : ℕ) (s : Section) (payload : ℕ → List ℕ) → Wide 77 payload → Wide 80 (section_block h q s payload)
+pub block_wide : (h q : ℕ) (s : Section) (payload : ℕ → List ℕ) → Wide 77 payload → Wide 80 (section_block h q s payload)
 unfolding id_bytes
 block_wide h q s payload wide k = omega (arith, wide k)
 
-module _ (h q : ℕ) (s : Section) (payload : ℕ → List ℕ) (wide : Wide 77 payload) (d xs : List ℕ) (k n : ℕ) (ex : Filled 80 (section_block h q s payload) k d xs) where
-  -- block k of n comes back
-  first_turn : (ys : List ℕ) (i : BlockId) → length xs ≡ length d → length d ≡ n * 80 → k < n → i ≡ id_of h q s k
-      → ys ≡ pick (number_fits (length (take (k * 80 + 80 - k * 80) (drop (k * 80) xs))) k n) (id_bytes i ++ payload k) (take (k * 80 + 80 - k * 80) (drop (k * 80) xs))
-      → Filled 80 (section_block h q s payload) (k + 1) d (put_mid (k * 80) (k * 80 + 80 - k * 80) xs ys)
-  first_turn ys i same len hk ei ey =
-      let long = part_long xs (k * 80) 80 (omega (arith, same, len)) in
-      filled_next 80 (section_block h q s payload) (block_wide h q s payload wide) k d xs ys ex (written _ _ _ ys (number_fits_lem _ k n long hk) ey ∙ rw ei refl)
+-- a lent block as its writer leaves it
+pub subcode_left : (y : System) (h q : ℕ) (said : SubcodeData) (k s : ℕ) (xs ys zs : List ℕ) (i : BlockId) → k < 2 → length xs ≡ 80 → i ≡ id_of h q Subcode k → s ≡ half_of y
+    → ys ≡ pick (number_fits (length xs) i.dbn.0 2) (id_bytes i ++ subcode_bytes (ltb q s) said i.dbn.0) xs → zs ≡ ys → zs ≡ section_block h q Subcode (subcode_bytes (is_first y q) said) k
+subcode_left y h q said k s xs ys zs i hk long ei es ey ez = ez ∙ written (number_fits (length xs) k 2) (section_block h q Subcode (subcode_bytes (is_first y q) said) k) xs ys (number_fits_lem _ k 2 long hk) (ey ∙ rw (ei, es) refl)
 
-  first_done : length d ≡ n * 80 → k ≤ n → n ≤ k → xs ≡ first_blocks h q s payload n
-  unfolding first_blocks
-  first_done len le ge = filled_end 80 (section_block h q s payload) k n d xs ex len le ge
-
-module _ (y : System) (h q : ℕ) (said : SubcodeData) (d xs : List ℕ) (k : ℕ) (ex : Filled 80 (section_block h q Subcode (subcode_bytes (is_first y q) said)) k d xs) (len : length d ≡ 160) where
-  pub subcodes_turn : (ys : List ℕ) (i : BlockId) (s : ℕ) → length xs ≡ length d → k < 2 → i ≡ id_of h q Subcode k → s ≡ half_of y
-      → ys ≡ pick (number_fits (length (take (k * 80 + 80 - k * 80) (drop (k * 80) xs))) i.dbn.0 2) (id_bytes i ++ subcode_bytes (ltb q s) said i.dbn.0) (take (k * 80 + 80 - k * 80) (drop (k * 80) xs))
-      → Filled 80 (section_block h q Subcode (subcode_bytes (is_first y q) said)) (k + 1) d (put_mid (k * 80) (k * 80 + 80 - k * 80) xs ys)
-  subcodes_turn ys i s same hk ei es ey =
-      first_turn h q Subcode (subcode_bytes (is_first y q) said) (subcode_length (is_first y q) said) d xs k 2 ex ys i same len hk ei (ey ∙ rw (ei, es) refl)
-
-  pub subcodes_done : k ≤ 2 → 2 ≤ k → xs ≡ first_blocks h q Subcode (subcode_bytes (is_first y q) said) 2
-  subcodes_done = first_done h q Subcode (subcode_bytes (is_first y q) said) (subcode_length (is_first y q) said) d xs k 2 ex len
-
-module _ (h q : ℕ) (vs vsc : Pack) (d xs : List ℕ) (k : ℕ) (ex : Filled 80 (section_block h q Vaux (vaux_bytes vs vsc q)) k d xs) (len : length d ≡ 240) where
-  pub vauxes_turn : (ys : List ℕ) (i : BlockId) → length xs ≡ length d → k < 3 → i ≡ id_of h q Vaux k
-      → ys ≡ pick (number_fits (length (take (k * 80 + 80 - k * 80) (drop (k * 80) xs))) i.dbn.0 3) (id_bytes i ++ vaux_bytes vs vsc i.dseq i.dbn.0) (take (k * 80 + 80 - k * 80) (drop (k * 80) xs))
-      → Filled 80 (section_block h q Vaux (vaux_bytes vs vsc q)) (k + 1) d (put_mid (k * 80) (k * 80 + 80 - k * 80) xs ys)
-  vauxes_turn ys i same hk ei ey = first_turn h q Vaux (vaux_bytes vs vsc q) (vaux_length vs vsc q) d xs k 3 ex ys i same len hk ei (ey ∙ rw ei refl)
-
-  pub vauxes_done : k ≤ 3 → 3 ≤ k → xs ≡ first_blocks h q Vaux (vaux_bytes vs vsc q) 3
-  vauxes_done = first_done h q Vaux (vaux_bytes vs vsc q) (vaux_length vs vsc q) d xs k 3 ex len
+pub vaux_left : (h q : ℕ) (vs vsc : Pack) (k : ℕ) (xs ys zs : List ℕ) (i : BlockId) → k < 3 → length xs ≡ 80 → i ≡ id_of h q Vaux k
+    → ys ≡ pick (number_fits (length xs) i.dbn.0 3) (id_bytes i ++ vaux_bytes vs vsc i.dseq i.dbn.0) xs → zs ≡ ys → zs ≡ section_block h q Vaux (vaux_bytes vs vsc q) k
+vaux_left h q vs vsc k xs ys zs i hk long ei ey ez = ez ∙ written (number_fits (length xs) k 3) (section_block h q Vaux (vaux_bytes vs vsc q) k) xs ys (number_fits_lem _ k 3 long hk) (ey ∙ rw ei refl)
 
 -- ---- the six blocks before the banks
 
@@ -203,20 +183,16 @@ module _ (y : System) (macroblocks : List ℕ) (h q v : ℕ) where
   abbrev pub video_in : ℕ → List ℕ
   video_in j = section_block h q Video (video_bytes y macroblocks h q) (v + j)
 
-  module _ (d xs : List ℕ) (asked : VideosAsked d v) (j : ℕ) (ex : Filled 80 video_in j d xs) where
-    video_fits_lem : length macroblocks ≡ 77 * macroblocks_of y → j < 15 → length xs ≡ length d → video_fits (length (take (j * 80 + 80 - j * 80) (drop (j * 80) xs))) y (length macroblocks) ≡ true
-    unfolding video_fits
-    video_fits_lem pictures hj same = rw (eq-eqb _ _ (part_long xs (j * 80) 80 (omega (arith, same, asked.long))), eq-eqb _ _ pictures) refl
+  video_fits_lem : (n : ℕ) → n ≡ 80 → length macroblocks ≡ 77 * macroblocks_of y → video_fits n y (length macroblocks) ≡ true
+  unfolding video_fits
+  video_fits_lem n long pictures = rw (eq-eqb _ _ long, eq-eqb _ _ pictures) refl
 
-    pub videos_turn : (ys : List ℕ) (i : BlockId) → length macroblocks ≡ 77 * macroblocks_of y → length xs ≡ length d → j < 15 → i ≡ id_of h q Video (v + j)
-        → ys ≡ pick (video_fits (length (take (j * 80 + 80 - j * 80) (drop (j * 80) xs))) y (length macroblocks)) (id_bytes i ++ video_bytes y macroblocks i.channel i.dseq i.dbn.0) (take (j * 80 + 80 - j * 80) (drop (j * 80) xs))
-        → Filled 80 video_in (j + 1) d (put_mid (j * 80) (j * 80 + 80 - j * 80) xs ys)
-    videos_turn ys i pictures same hj ei ey =
-        filled_next 80 video_in (λ n. block_wide h q Video (video_bytes y macroblocks h q) (video_length y macroblocks h q) (v + n)) j d xs ys ex (written _ _ _ ys (video_fits_lem pictures hj same) ey ∙ rw ei refl)
+  pub videos_wide : Wide 80 video_in
+  videos_wide n = block_wide h q Video (video_bytes y macroblocks h q) (video_length y macroblocks h q) (v + n)
 
-    pub videos_done : j ≤ 15 → 15 ≤ j → xs ≡ video_blocks y macroblocks h q v
-    unfolding video_blocks
-    videos_done le ge = filled_end 80 video_in j 15 d xs ex asked.long le ge
+  pub video_left : (j : ℕ) (xs ys zs : List ℕ) (i : BlockId) → length macroblocks ≡ 77 * macroblocks_of y → length xs ≡ 80 → i ≡ id_of h q Video (v + j)
+      → ys ≡ pick (video_fits (length xs) y (length macroblocks)) (id_bytes i ++ video_bytes y macroblocks i.channel i.dseq i.dbn.0) xs → zs ≡ ys → zs ≡ video_in j
+  video_left j xs ys zs i pictures long ei ey ez = ez ∙ written _ _ _ ys (video_fits_lem _ long pictures) ey ∙ rw ei refl
 
 -- ---- a bank
 

@@ -1,5 +1,6 @@
 -- What the private functions ask of their callers.
 use Rattle.std.specs.Prelude.{◌≡◌, List, ◌⊎◌, ℕ, ◌*◌, ◌≤◌, ◌<◌, ℤ, length}
+use Rattle.std.specs.Borrow.{MutBor}
 use Rattle.paper.specs.declared.System.{System}
 use Rattle.rules_format.specs.Systems.{sequences_of}
 
@@ -15,6 +16,10 @@ pub record SamplesAsked (sound : List ℤ) (c count : ℕ) : Type 0 where
   pub below : c < 9
   pub counted : count < 2000
   pub sounds : length sound ≡ 8 * count
+
+-- a block writer, by what it leaves of a block: of block k below n the bytes of block k
+abbrev pub PutsBlocks : (MutBor (List ℕ) → ℕ → Unit {0} → MutBor (List ℕ) → Type 0) → (ℕ → List ℕ) → ℕ → Type 0
+PutsBlocks post bytes n = (p q : MutBor (List ℕ)) (k : ℕ) → k < n → length p.now ≡ 80 → post p k tt q → q.now ≡ bytes k
 
 -- fifteen video blocks, from V(v) on
 pub record VideosAsked (part : List ℕ) (v : ℕ) : Type 0 where

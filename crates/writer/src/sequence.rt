@@ -1,13 +1,13 @@
 // The 150 blocks of a sequence in stream order: H0, SC0, SC1, VA0 to VA2, then nine banks, each an audio block and the fifteen video
 // blocks behind it.
-ghost use Rattle.std.specs.Prelude.{◌≡◌, ◌++◌, ◌+◌, ◌*◌, length, take};
-ghost use Rattle.base.specs.Run.{run};
+ghost use Rattle.std.specs.Prelude.{◌≡◌, List, ◌++◌, ℕ, ◌+◌, ◌*◌, ◌<◌, length, take};
+ghost use Rattle.base.specs.Run.{run, Wide};
 ghost use Rattle.rules_format.specs.Places.{place, entry_at, place_in, place_for};
 ghost use Rattle.rules_format.specs.Ids.{id_of};
 ghost use Rattle.rules_packs.specs.Subcode.{is_first, subcode_bytes};
 ghost use Rattle.rules_packs.specs.Vaux.{vaux_bytes};
 ghost use Rattle.rules_writes.specs.Written.{material_of, written_sequence};
-ghost use Rattle.writer.specs.Asked.{VideosAsked, BankAsked, SequenceAsked};
+ghost use Rattle.writer.specs.Asked.{PutsBlocks, VideosAsked, BankAsked, SequenceAsked};
 ghost use Rattle.writer.specs.Blocks.{first_blocks, video_blocks, head_blocks, bank_blocks};
 
 use crate::audio;
@@ -37,21 +37,30 @@ fn id(dif: DifSequence, section: Section, number: u32) -> BlockId
     }
 }
 
+// The blocks of a part, one after the other, each by `put`.
+fn write_blocks<F: Fn(&mut [u8], u32)>(part: &mut [u8], count: u32, put: F)
+    requires long { length part.old ≡ count * 80 }
+    requires callable { (block : _) (k : ℕ) → k < count → F.pre put block k }
+    ensures { (bytes : ℕ → List ℕ) → Wide 80 bytes → PutsBlocks (F.post put) bytes count → part.new ≡ run bytes count }
+{
+    for k in 0..count {
+        let at = (k as usize) * BLOCK;
+        let to = at + BLOCK;
+        put(&mut part[at..to], k);
+    }
+}
+
 // SC0, SC1.
 fn write_subcodes(part: &mut [u8], y: System, dif: DifSequence, said: SubcodeData)
     requires { length part.old ≡ 160 }
     ensures { part.new ≡ first_blocks dif.channel dif.sequence Section.Subcode (subcode_bytes (is_first y dif.sequence) said) 2 }
 {
-    for k in 0..2 {
-        let at = (k as usize) * BLOCK;
-        let to = at + BLOCK;
-        blocks::put_subcode(
-            &mut part[at..to],
-            id(dif, Section::Subcode, k),
-            dif.sequence < layout::half(y),
-            said,
-        );
-    }
+    let first = dif.sequence < layout::half(y);
+    write_blocks(
+        part,
+        2,
+        |block, k| blocks::put_subcode(block, id(dif, Section::Subcode, k), first, said),
+    );
 }
 
 // VA0, VA1, VA2.
@@ -59,11 +68,11 @@ fn write_vauxes(part: &mut [u8], dif: DifSequence, vs: Pack, vsc: Pack)
     requires { length part.old ≡ 240 }
     ensures { part.new ≡ first_blocks dif.channel dif.sequence Section.Vaux (vaux_bytes vs vsc dif.sequence) 3 }
 {
-    for k in 0..3 {
-        let at = (k as usize) * BLOCK;
-        let to = at + BLOCK;
-        blocks::put_vaux(&mut part[at..to], id(dif, Section::Vaux, k), vs, vsc);
-    }
+    write_blocks(
+        part,
+        3,
+        |block, k| blocks::put_vaux(block, id(dif, Section::Vaux, k), vs, vsc),
+    );
 }
 
 // The six blocks before the banks.
@@ -84,16 +93,14 @@ fn write_videos(part: &mut [u8], bank: &Bank, dif: DifSequence, v: u32)
     requires { VideosAsked part.old v }
     ensures { part.new ≡ video_blocks bank.now.system bank.now.macroblocks.now dif.channel dif.sequence v }
 {
-    for j in 0..15 {
-        let at = (j as usize) * BLOCK;
-        let to = at + BLOCK;
+    write_blocks(part, 15, |block, j| {
         blocks::put_video(
-            &mut part[at..to],
+            block,
             id(dif, Section::Video, v + j),
             bank.system,
             bank.macroblocks,
-        );
-    }
+        )
+    });
 }
 
 // The number of the block at the place behind A(a).

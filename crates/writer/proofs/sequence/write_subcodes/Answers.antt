@@ -1,14 +1,10 @@
--- `writer::sequence::write_subcodes` meets its contract: the first blocks are written, and the rest is as it was. Assumes nothing.
+-- `writer::sequence::write_subcodes` meets its contract: both blocks are as their writer leaves them. Assumes nothing.
 use borrow.Author.Rules.{rules}
-use Rattle.base.proofs.Filling.{filled_none}
-use Rattle.writer.proofs.Whole.{subcodes_turn, subcodes_done}
+use Rattle.rules_packs.proofs.Subcode.{subcode_length}
+use Rattle.writer.specs.Blocks.{first_blocks}
+use Rattle.writer.proofs.Whole.{block_wide, subcode_left}
 use Rattle.writer.proofs.sequence.write_subcodes.Goals as goal
 
-pub loop-k-init : goal.loop-k-init
-loop-k-init c = filled_none 80 _ _
-
-pub loop-k-preserved : goal.loop-k-preserved
-loop-k-preserved c = search (subcodes_turn, rules)
-
 pub returns : goal.returns
-returns c = search (subcodes_done, rules)
+unfolding first_blocks
+returns c = c.write_blocks.ensures _ (block_wide _ _ _ _ (subcode_length _ _)) (λ p q k hk long e. search (subcode_left, rules))

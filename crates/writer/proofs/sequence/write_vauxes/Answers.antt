@@ -1,14 +1,10 @@
--- `writer::sequence::write_vauxes` meets its contract: the first blocks are written, and the rest is as it was. Assumes nothing.
+-- `writer::sequence::write_vauxes` meets its contract: the three blocks are as their writer leaves them. Assumes nothing.
 use borrow.Author.Rules.{rules}
-use Rattle.base.proofs.Filling.{filled_none}
-use Rattle.writer.proofs.Whole.{vauxes_turn, vauxes_done}
+use Rattle.rules_packs.proofs.Vaux.{vaux_length}
+use Rattle.writer.specs.Blocks.{first_blocks}
+use Rattle.writer.proofs.Whole.{block_wide, vaux_left}
 use Rattle.writer.proofs.sequence.write_vauxes.Goals as goal
 
-pub loop-k-init : goal.loop-k-init
-loop-k-init c = filled_none 80 _ _
-
-pub loop-k-preserved : goal.loop-k-preserved
-loop-k-preserved c = search (vauxes_turn, rules)
-
 pub returns : goal.returns
-returns c = search (vauxes_done, rules)
+unfolding first_blocks
+returns c = c.write_blocks.ensures _ (block_wide _ _ _ _ (vaux_length _ _ _)) (λ p q k hk long e. search (vaux_left, rules))
