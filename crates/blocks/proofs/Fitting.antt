@@ -1,4 +1,5 @@
 -- The ways out of the public block writers, and what they ask of the private ones. Assumes nothing.
+use Rattle.std.proofs.Math.Bool.{and_assoc}
 use mathlib.Core.Path.{◌≡◌, refl, sym, ◌∙◌}
 use mathlib.Core.Bool.{Bool, true, false, ◌&&◌}
 use mathlib.Core.List.{List}
@@ -11,6 +12,7 @@ use Rattle.base.specs.Pick.{pick}
 use Rattle.base.proofs.Picks.{pick_true, pick_false, both_held}
 use Rattle.paper.specs.declared.System.{System}
 use Rattle.rules_format.specs.Systems.{half_of, macroblocks_of}
+use Rattle.sample_words.specs.Words.{words_fit}
 use Rattle.blocks.specs.Asked.{NumberAsked, AudioAsked, VideoAsked}
 use Rattle.blocks.specs.Fits.{number_fits, audio_fits, video_fits}
 
@@ -42,20 +44,29 @@ module _ (ws xs : List ℕ) (k n : ℕ) where
 
 -- ---- audio and video
 
-pub audio_fit : (size : ℕ) (y : System) (samples a s : ℕ) → s ≡ half_of y → ((eqb size 80 && ltb a 9) && leb (315 * s) samples) ≡ audio_fits size y samples a
-unfolding audio_fits
-audio_fit size y samples a s es = rw es refl
+-- r is whether its words fit
+module _ (xs : List ℕ) (y : System) (samples : List ℤ) (a : ℕ) (r : Bool) (er : r ≡ words_fit 72 y (length samples) a) where
+  audio_fit : (eqb (length xs) 80 && r) ≡ audio_fits (length xs) y (length samples) a
+  unfolding audio_fits words_fit
+  audio_fit = rw er (sym (and_assoc (eqb (length xs) 80) (ltb a 9) (leb (315 * half_of y) (length samples))))
+
+  pub audio_stays : (ws : List ℕ) → (eqb (length xs) 80 && r) ≡ false → xs ≡ pick (audio_fits (length xs) y (length samples) a) ws xs
+  audio_stays ws e = stays _ _ ws xs audio_fit e
+
+  module _ (e : (eqb (length xs) 80 && r) ≡ true) where
+    pub audio_fills : (ws zs : List ℕ) → zs ≡ ws → zs ≡ pick (audio_fits (length xs) y (length samples) a) ws xs
+    audio_fills ws zs ez = fills _ _ ws xs zs audio_fit e ez
+
+    pub audio_asked : AudioAsked xs 80 y samples a
+    unfolding audio_fits
+    audio_asked =
+        let w = both_held _ _ (sym audio_fit ∙ e) in
+        let u = both_held _ _ w.0 in
+        record { long = eqb-true _ _ u.0; below = ltb-true _ _ u.1; turns = leb-true _ _ w.1 }
 
 pub video_fit : (size : ℕ) (y : System) (bytes n : ℕ) → n ≡ macroblocks_of y → (eqb size 80 && eqb bytes (77 * n)) ≡ video_fits size y bytes
 unfolding video_fits
 video_fit size y bytes n en = rw en refl
-
-pub audio_asked : (xs : List ℕ) (y : System) (samples : List ℤ) (a : ℕ) (r : Bool) → r ≡ audio_fits (length xs) y (length samples) a → r ≡ true → AudioAsked xs 80 y samples a
-unfolding audio_fits
-audio_asked xs y samples a r er e =
-    let w = both_held _ _ (sym er ∙ e) in
-    let u = both_held _ _ w.0 in
-    record { long = eqb-true _ _ u.0; below = ltb-true _ _ u.1; turns = leb-true _ _ w.1 }
 
 pub video_asked : (xs : List ℕ) (y : System) (macroblocks : List ℕ) (r : Bool) → r ≡ video_fits (length xs) y (length macroblocks) → r ≡ true → VideoAsked xs y macroblocks
 unfolding video_fits

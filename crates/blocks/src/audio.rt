@@ -11,6 +11,9 @@ use crate::parts;
 use layout::BLOCK;
 use paper::{BlockId, BlockNumber, Pack, System};
 
+// The bytes of a block's words.
+const WORDS: usize = BLOCK - 8;
+
 // The words of A(a) of sequence q. "Positions from the count on are written 0": the last word alone may be past it.
 fn put_words(part: &mut [u8], y: System, samples: &[i32], q: u32, a: BlockNumber)
     requires { AudioAsked part.old 72 y samples.now a.0 }
@@ -31,18 +34,11 @@ fn write_audio(block: &mut [u8], id: BlockId, y: System, source: Pack, asc: Pack
     put_words(&mut block[8..BLOCK], y, samples, q, a);
 }
 
-// A block of the section, and samples for 35 whole turns.
-fn audio_fits(size: usize, y: System, samples: usize, a: BlockNumber) -> bool
-    ensures { result ≡ audio_fits size y samples a.0 }
-{
-    ((size == BLOCK) & (a.0 < 9)) & (315 * (layout::half(y) as usize) <= samples)
-}
-
 // An audio block of any part: the AS of its audio channel, the ASC, and the channel's samples. One that does not fit stays as it is.
 pub fn put_audio(block: &mut [u8], id: BlockId, y: System, source: Pack, asc: Pack, samples: &[i32])
     ensures { block.new ≡ pick (audio_fits (length block.old) y (length samples.now) id.dbn.0) (id_bytes id ++ audio_bytes y source asc samples.now id.dseq id.dbn.0) block.old }
 {
-    let fits = audio_fits(block.len(), y, samples.len(), id.dbn);
+    let fits = (block.len() == BLOCK) & sample_words::words_fit(WORDS, y, samples.len(), id.dbn);
     if fits {
         write_audio(block, id, y, source, asc, samples);
     }

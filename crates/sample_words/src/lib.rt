@@ -38,7 +38,7 @@ fn put_words(part: &mut [u8], samples: &[i32], first: usize, step: usize)
 }
 
 // The part has 72 bytes, its block a number, and there are samples for 35 whole turns.
-fn words_fit(size: usize, y: System, samples: usize, a: BlockNumber) -> bool
+pub fn words_fit(size: usize, y: System, samples: usize, a: BlockNumber) -> bool
     ensures { result ≡ words_fit size y samples a.0 }
 {
     ((size == 72) & (a.0 < 9)) & (315 * (layout::half(y) as usize) <= samples)
