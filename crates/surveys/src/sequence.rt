@@ -9,12 +9,12 @@ use layout::{DifSequence, SEQUENCE};
 use paper::{Cause, Survey, System};
 
 // What the survey of a sequence of so many bytes is refused for: 1, 3, 4.
-fn refuse(system: u32, channel: u32, sequence: u32, bytes: usize) -> Result<System, Cause>
-    ensures said { number_said result ≡ sequence_number system channel sequence bytes }
-    ensures known { IfOk result (λ y. SequenceKnown system channel sequence bytes y) }
+fn refuse(system: u32, dif: DifSequence, bytes: usize) -> Result<System, Cause>
+    ensures said { number_said result ≡ sequence_number system dif.channel dif.sequence bytes }
+    ensures known { IfOk result (λ y. SequenceKnown system dif.channel dif.sequence bytes y) }
 {
     let y = layout::system_of(system).ok_or(Cause::NoSystem)?;
-    let out = faults::outside(y, DifSequence { channel, sequence });
+    let out = faults::outside(y, dif);
     if out {
         return Err(Cause::OutsideSystem);
     }
@@ -34,7 +34,8 @@ pub fn survey_sequence(
 ) -> Survey
     ensures { SequenceSurveyed system channel sequence part.now list.old result list.new }
 {
-    let y = match refuse(system, channel, sequence, part.len()) {
+    let dif = DifSequence { channel, sequence };
+    let y = match refuse(system, dif, part.len()) {
         Ok(y) => y,
         Err(cause) => return fault_list::refused(layout::number_of(cause)),
     };
@@ -42,6 +43,6 @@ pub fn survey_sequence(
         numbers: list,
         total: 0,
     };
-    found.survey_next(y, DifSequence { channel, sequence }, part);
+    found.survey_next(y, dif, part);
     found.answered()
 }
