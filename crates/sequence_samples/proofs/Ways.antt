@@ -12,7 +12,6 @@ use lib.ListN.{length, take, drop, get_or, set}
 use mir.Syntax.{w32}
 use mir.Val.{Fits}
 use borrow.Author.Tests.{eqb-true, leb-true, eq-eqb, le-leb}
-use Rattle.base.proofs.Cases.{by_lt}
 use Rattle.base.specs.Pick.{pick}
 use Rattle.base.proofs.Parts.{range_part, length_part}
 use Rattle.base.proofs.Picks.{pick_true, pick_false, both_held}
@@ -33,7 +32,7 @@ use Rattle.rules_format.proofs.Places.{entry_place_in, place_for_lem}
 use Rattle.rules_format.proofs.Sound.{half_some, half_le, sample_back, audio_below, word_below, first_below, rank_sample, audio_sample}
 use Rattle.sequence_samples.specs.Taken.{held_word, held_block, held_part, Placed, Between, blocks_taken}
 use Rattle.sequence_samples.specs.Asked.{WordsAsked, BlockAsked, PartAsked}
-use Rattle.sequence_samples.proofs.Between.{placed_more, between_none, between_next, between_same}
+use Rattle.sequence_samples.proofs.Between.{placed_more, word_within, between_none, between_next, between_same}
 
 -- ---- put_words: word w, of which `high` and `low` are the bytes
 
@@ -46,17 +45,10 @@ word_placed block named first step room before now w t held kept x a p et l eh e
     placed_more first step _ before now w t x p (omega (arith, a.start)) et l
     (ex ∙ ap number_of (ek ∙ ap (λ (z : Sample). pick named z Lost) (eh ∙ ap (λ (i : ℕ). sample_of (get_or block (8 + 2 * w) 0 * 256 + get_or block i 0)) next)))
 
--- a word past the room is nobody's
-pub word_past : (first step : ℕ) (g : ℕ → ℤ) (before now : List ℤ) (w : ℕ) → Placed first step g w before now → length now ≤ first + step * w → Placed first step g (w + 1) before now
-word_past first step g before now w p l =
-    record {
-      size = p.size;
-      hit = λ k h b. by_lt k w (λ below. p.hit k below b) (λ above.
-          let ek : k ≡ w = omega arith in
-          let at : first + step * k ≡ first + step * w = ap (λ (j : ℕ). first + step * j) ek in
-          absurd (omega (arith, b, at, l, p.size)));
-      miss = λ j no. p.miss j (λ k b. no k (omega arith));
-    }
+-- a word that has room is one of the 36
+pub word_room : {block : List ℕ} {first step w t : ℕ} {g : ℕ → ℤ} {before now : List ℤ} → WordsAsked block first step (length before) → Placed first step g w before now
+    → t ≡ first + step * w → t < length now → w < 36
+word_room {block} {first} {step} {w} {t} {g} {before} {now} a p et l = word_within first step w t (length now) et l (omega (arith, a.room, p.size))
 
 pub step_fits : (y : System) (n : ℕ) → n ≡ half_of y → Fits w32 (9 * n)
 step_fits y n e = omega (arith, half_le (half_of y) (half_cases y))

@@ -23,13 +23,15 @@ fn put_words(block: &[u8], named: bool, first: usize, step: usize, samples: &mut
     requires { WordsAsked block.now first step (length samples.old) }
     ensures { Placed first step (λ (k : ℕ). held_word named block.now (8 + 2 * k)) 36 samples.old samples.new }
 {
-    for w in 0..36 {
-        let t = first + step * w;
-        if t < samples.len() {
-            let high = block[8 + 2 * w];
-            let low = block[9 + 2 * w];
-            samples[t] = sound::number_of(or_lost(named, sound::sample_of(high, low)));
-        }
+    let mut t = first;
+    let mut w = 0;
+    while t < samples.len() {
+        let high = block[8 + 2 * w];
+        let low = block[9 + 2 * w];
+        let x = sound::number_of(or_lost(named, sound::sample_of(high, low)));
+        samples[t] = x;
+        t += step;
+        w += 1;
     }
 }
 
