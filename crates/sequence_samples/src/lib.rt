@@ -35,7 +35,7 @@ fn put_words(block: &[u8], named: bool, first: usize, step: usize, samples: &mut
     }
 }
 
-// Audio block a of sequence q of DIF channel h.
+// The samples of audio block a of a sequence.
 fn take_block(block: &[u8], y: System, dif: DifSequence, a: BlockNumber, samples: &mut [i32])
     requires { BlockAsked block.now y a.0 (length samples.old) }
     ensures { Between (half_of y) (9 * rank_at (half_of y) dif.sequence + a.0) (9 * rank_at (half_of y) dif.sequence + a.0 + 1) (held_block (half_of y) block.now dif.channel dif.sequence) samples.old samples.new }

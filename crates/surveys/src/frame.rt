@@ -10,7 +10,7 @@ use fault_list::FaultList;
 use layout::{CHANNELS, DifSequence, Frame, SEQUENCE};
 use paper::Survey;
 
-// The bytes of sequence q of DIF channel h.
+// The bytes of a sequence in its frame.
 fn part_of<'a>(frame: &Frame<'a>, dif: DifSequence) -> &'a [u8]
     requires { PartAsked frame.now.system dif.channel dif.sequence }
     ensures { result.now ≡ sequence_at frame.now.system frame.now.bytes.now dif.channel dif.sequence }
