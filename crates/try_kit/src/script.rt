@@ -63,7 +63,7 @@ fn body(line: &[u8]) -> &[u8] {
     parts.next().unwrap_or(&[])
 }
 
-pub fn parse(line: &[u8]) -> Line<'_> {
+fn parse(line: &[u8]) -> Line<'_> {
     let body = body(line);
     let mut words = body.split(|b| *b == b' ').skip(1);
     let name = words.next().unwrap_or(&[]);
@@ -78,8 +78,23 @@ pub fn parse(line: &[u8]) -> Line<'_> {
     }
 }
 
+// What a test program does at a line of its script, behind the line's name.
+pub trait Steps {
+    fn step(&mut self, rt: &impl Print, line: Line<'_>) -> io::Result<()>;
+}
+
+// Takes the lines of a script one after the other.
+pub fn run(rt: &impl Print, script: &[u8], program: &mut impl Steps) -> io::Result<()> {
+    for line in script.split(|b| *b == b'\n') {
+        let line = parse(line);
+        start(rt, line)?;
+        program.step(rt, line)?;
+    }
+    Ok(())
+}
+
 // Starts the line that is printed of this one, with its name; `-` begins the name of a line of which no name is printed.
-pub fn start(rt: &impl Print, line: Line<'_>) -> io::Result<()> {
+fn start(rt: &impl Print, line: Line<'_>) -> io::Result<()> {
     if line.name.starts_with(b"-") {
         return Ok(());
     }

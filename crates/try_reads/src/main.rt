@@ -8,69 +8,64 @@ mod asks;
 mod changes;
 
 use std::io;
-use try_kit::script::Line;
+use try_kit::script::{Line, Steps};
 use try_kit::{script, values};
 
-// A frame of known contents, over the first bytes of the frame: system, count, PC1 of the time code.
-fn write(
-    rt: &impl Print,
-    line: Line<'_>,
-    numbers: &mut [i32],
-    macroblocks: &[u8],
-    frame: &mut [u8],
-) -> io::Result<()> {
-    let [system, count, pc1, ..] = line.numbers;
-    let answer = values::known_frame(system, count, pc1, numbers, macroblocks, frame);
-    println!(rt; "\t{system}\t{count}\t{answer}")
+// What is read from and written to: lent numbers, macroblocks that are written, and a frame.
+#[derive(Drop)]
+struct Lent<'a, 'b> {
+    numbers: &'a mut [i32],
+    macroblocks: &'b [u8],
+    frame: &'a mut [u8],
 }
 
-// What a line tries is said by its letter.
-fn step(
-    rt: &impl Print,
-    line: Line<'_>,
-    numbers: &mut [i32],
-    macroblocks: &[u8],
-    frame: &mut [u8],
-) -> io::Result<()> {
-    match line.letter {
-        Some(b'w') => write(rt, line, numbers, macroblocks, frame),
-        Some(b'p') => changes::patched(rt, line, frame, numbers),
-        Some(b'n') => changes::replaced(rt, line, frame, numbers),
-        Some(b'k') => {
-            changes::keep(line, frame);
-            Ok(())
-        }
-        Some(b'o') => {
-            changes::over(line, frame);
-            Ok(())
-        }
-        Some(b'r') => {
-            values::fill_rubbish(frame);
-            Ok(())
-        }
-        Some(b't') => asks::tried(rt, line, frame, numbers),
-        Some(b'a') => asks::audio(rt, line, frame, numbers),
-        Some(b'm') => asks::macroblock(rt, line, frame),
-        Some(b's') => asks::salvage(rt, line, frame, numbers),
-        Some(b'v') => asks::survey(rt, line, frame),
-        Some(b'c') => asks::channel(rt, line, numbers),
-        _ => Ok(()),
+impl Lent<'_, '_> {
+    // A frame of known contents, over the first bytes of the frame: system, count, PC1 of the time code.
+    fn write(&mut self, rt: &impl Print, line: Line<'_>) -> io::Result<()> {
+        let [system, count, pc1, ..] = line.numbers;
+        let macroblocks = self.macroblocks;
+        let numbers = &mut *self.numbers;
+        let answer = values::known_frame(
+            system,
+            count,
+            pc1,
+            numbers,
+            macroblocks,
+            self.frame,
+        );
+        println!(rt; "\t{system}\t{count}\t{answer}")
     }
 }
 
-fn steps(
-    rt: &impl Print,
-    script: &[u8],
-    numbers: &mut [i32],
-    macroblocks: &[u8],
-    frame: &mut [u8],
-) -> io::Result<()> {
-    for line in script.split(|b| *b == b'\n') {
-        let line = script::parse(line);
-        script::start(rt, line)?;
-        step(rt, line, numbers, macroblocks, frame)?;
+impl Steps for Lent<'_, '_> {
+    fn step(&mut self, rt: &impl Print, line: Line<'_>) -> io::Result<()> {
+        let numbers = &mut *self.numbers;
+        let frame = &mut *self.frame;
+        match line.letter {
+            Some(b'w') => self.write(rt, line),
+            Some(b'p') => changes::patched(rt, line, frame, numbers),
+            Some(b'n') => changes::replaced(rt, line, frame, numbers),
+            Some(b'k') => {
+                changes::keep(line, frame);
+                Ok(())
+            }
+            Some(b'o') => {
+                changes::over(line, frame);
+                Ok(())
+            }
+            Some(b'r') => {
+                values::fill_rubbish(frame);
+                Ok(())
+            }
+            Some(b't') => asks::tried(rt, line, frame, numbers),
+            Some(b'a') => asks::audio(rt, line, frame, numbers),
+            Some(b'm') => asks::macroblock(rt, line, frame),
+            Some(b's') => asks::salvage(rt, line, frame, numbers),
+            Some(b'v') => asks::survey(rt, line, frame),
+            Some(b'c') => asks::channel(rt, line, numbers),
+            _ => Ok(()),
+        }
     }
-    Ok(())
 }
 
 fn main(rt: HostRuntime) -> io::Result<()> {
@@ -80,5 +75,10 @@ fn main(rt: HostRuntime) -> io::Result<()> {
     let mut macroblocks = vec![in alloc; 0u8; 467775]?;
     let mut frame = vec![in alloc; 0u8; 576001]?;
     values::fill_macroblocks(&mut macroblocks);
-    steps(&rt, &script, &mut numbers, &macroblocks, &mut frame)
+    let mut lent = Lent {
+        numbers: &mut numbers,
+        macroblocks: &macroblocks,
+        frame: &mut frame,
+    };
+    script::run(&rt, &script, &mut lent)
 }

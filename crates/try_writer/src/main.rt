@@ -5,23 +5,9 @@
 
 use paper::Place;
 use std::io;
-use try_kit::script::Line;
+use try_kit::script::{Line, Steps};
 use try_kit::{script, values};
 use values::{behind, byte, first};
-
-// A frame of known contents: case, system, count, PC1 of the time code.
-fn known(
-    rt: &impl Print,
-    line: Line<'_>,
-    numbers: &mut [i32],
-    macroblocks: &[u8],
-    frame: &mut [u8],
-) -> io::Result<()> {
-    let [case, system, count, pc1, ..] = line.numbers;
-    let answer = values::known_frame(system, count, pc1, numbers, macroblocks, frame);
-    let (s1, s2) = values::sum_of_bytes(first(frame, values::size_of(system)));
-    println!(rt; "\t{case}\t{answer}\t{s1}\t{s2}")
-}
 
 // A block, by the block view: system, bytes of the frame, DIF channel, sequence, place.
 fn block(rt: &impl Print, line: Line<'_>, frame: &[u8]) -> io::Result<()> {
@@ -65,83 +51,87 @@ fn level(which: u32) -> i32 {
     }
 }
 
-// System, count, lengths of sound, macroblocks, time code, binary group and frame, the time code's bytes, the binary group's byte.
-fn answer(line: Line<'_>, numbers: &[i32], macroblocks: &[u8], frame: &mut [u8]) -> u32 {
-    let [
-        system,
-        count,
-        sound,
-        video,
-        time,
-        group,
-        size,
-        pc1,
-        pc2,
-        pc3,
-        pc4,
-        pack,
-    ] = line.numbers;
-    let codes = [byte(pc1), byte(pc2), byte(pc3), byte(pc4), 0];
-    let packs = [byte(pack); 5];
-    values::write(
-        system,
-        count,
-        first(numbers, sound as usize),
-        first(macroblocks, video as usize),
-        first(&codes, time as usize),
-        first(&packs, group as usize),
-        frame,
-        size as usize,
-    )
+// What is written from and to: numbers, macroblocks and a frame.
+#[derive(Drop)]
+struct Lent<'a, 'b> {
+    numbers: &'a mut [i32],
+    macroblocks: &'b [u8],
+    frame: &'a mut [u8],
 }
 
-fn refused(
-    rt: &impl Print,
-    line: Line<'_>,
-    numbers: &[i32],
-    macroblocks: &[u8],
-    frame: &mut [u8],
-) -> io::Result<()> {
-    frame.fill(0xA5);
-    let answer = answer(line, numbers, macroblocks, frame);
-    let others = frame.iter().filter(|x| **x != 0xA5).count();
-    println!(rt; "\t{answer}\t{others}")
+impl Lent<'_, '_> {
+    // A frame of known contents: case, system, count, PC1 of the time code.
+    fn known(&mut self, rt: &impl Print, line: Line<'_>) -> io::Result<()> {
+        let [case, system, count, pc1, ..] = line.numbers;
+        let macroblocks = self.macroblocks;
+        let numbers = &mut *self.numbers;
+        let answer = values::known_frame(
+            system,
+            count,
+            pc1,
+            numbers,
+            macroblocks,
+            self.frame,
+        );
+        let (s1, s2) = values::sum_of_bytes(first(self.frame, values::size_of(system)));
+        println!(rt; "\t{case}\t{answer}\t{s1}\t{s2}")
+    }
+
+    // System, count, lengths of sound, macroblocks, time code, binary group and frame, the time code's bytes, the binary group's byte.
+    fn answer(&mut self, line: Line<'_>) -> u32 {
+        let [
+            system,
+            count,
+            sound,
+            video,
+            time,
+            group,
+            size,
+            pc1,
+            pc2,
+            pc3,
+            pc4,
+            pack,
+        ] = line.numbers;
+        let codes = [byte(pc1), byte(pc2), byte(pc3), byte(pc4), 0];
+        let packs = [byte(pack); 5];
+        let macroblocks = self.macroblocks;
+        let numbers = &mut *self.numbers;
+        let frame = &mut *self.frame;
+        values::write(
+            system,
+            count,
+            first(numbers, sound as usize),
+            first(macroblocks, video as usize),
+            first(&codes, time as usize),
+            first(&packs, group as usize),
+            frame,
+            size as usize,
+        )
+    }
+
+    fn refused(&mut self, rt: &impl Print, line: Line<'_>) -> io::Result<()> {
+        self.frame.fill(0xA5);
+        let answer = self.answer(line);
+        let others = self.frame.iter().filter(|x| **x != 0xA5).count();
+        println!(rt; "\t{answer}\t{others}")
+    }
 }
 
-// What a line tries is said by its letter.
-fn step(
-    rt: &impl Print,
-    line: Line<'_>,
-    numbers: &mut [i32],
-    macroblocks: &[u8],
-    frame: &mut [u8],
-) -> io::Result<()> {
-    match line.letter {
-        Some(b'k') => known(rt, line, numbers, macroblocks, frame),
-        Some(b'b') => block(rt, line, frame),
-        Some(b's') => sample(rt, line, frame),
-        Some(b'a') => refused(rt, line, numbers, macroblocks, frame),
-        Some(b'n') => {
-            number(line, numbers);
-            Ok(())
+impl Steps for Lent<'_, '_> {
+    fn step(&mut self, rt: &impl Print, line: Line<'_>) -> io::Result<()> {
+        match line.letter {
+            Some(b'k') => self.known(rt, line),
+            Some(b'b') => block(rt, line, self.frame),
+            Some(b's') => sample(rt, line, self.frame),
+            Some(b'a') => self.refused(rt, line),
+            Some(b'n') => {
+                number(line, self.numbers);
+                Ok(())
+            }
+            _ => Ok(()),
         }
-        _ => Ok(()),
     }
-}
-
-fn steps(
-    rt: &impl Print,
-    script: &[u8],
-    numbers: &mut [i32],
-    macroblocks: &[u8],
-    frame: &mut [u8],
-) -> io::Result<()> {
-    for line in script.split(|b| *b == b'\n') {
-        let line = script::parse(line);
-        script::start(rt, line)?;
-        step(rt, line, numbers, macroblocks, frame)?;
-    }
-    Ok(())
 }
 
 fn main(rt: HostRuntime) -> io::Result<()> {
@@ -151,5 +141,10 @@ fn main(rt: HostRuntime) -> io::Result<()> {
     let mut macroblocks = vec![in alloc; 0u8; 467775]?;
     let mut frame = vec![in alloc; 0u8; 576000]?;
     values::fill_macroblocks(&mut macroblocks);
-    steps(&rt, &script, &mut numbers, &macroblocks, &mut frame)
+    let mut lent = Lent {
+        numbers: &mut numbers,
+        macroblocks: &macroblocks,
+        frame: &mut frame,
+    };
+    script::run(&rt, &script, &mut lent)
 }
