@@ -25,14 +25,7 @@ impl Lent<'_, '_> {
         let [system, count, pc1, ..] = line.numbers;
         let macroblocks = self.macroblocks;
         let numbers = &mut *self.numbers;
-        let answer = values::known_frame(
-            system,
-            count,
-            pc1,
-            numbers,
-            macroblocks,
-            self.frame,
-        );
+        let answer = values::known_frame(system, count, pc1, numbers, macroblocks, self.frame);
         println!(rt; "\t{system}\t{count}\t{answer}")
     }
 }

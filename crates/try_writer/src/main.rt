@@ -65,14 +65,7 @@ impl Lent<'_, '_> {
         let [case, system, count, pc1, ..] = line.numbers;
         let macroblocks = self.macroblocks;
         let numbers = &mut *self.numbers;
-        let answer = values::known_frame(
-            system,
-            count,
-            pc1,
-            numbers,
-            macroblocks,
-            self.frame,
-        );
+        let answer = values::known_frame(system, count, pc1, numbers, macroblocks, self.frame);
         let (s1, s2) = values::sum_of_bytes(first(self.frame, values::size_of(system)));
         println!(rt; "\t{case}\t{answer}\t{s1}\t{s2}")
     }
