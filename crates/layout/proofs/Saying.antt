@@ -2,13 +2,16 @@
 use mathlib.Core.Path.{◌≡◌, refl, sym, ap, ◌∙◌}
 use borrow.Author.Tests.{ne_eqb}
 use native.Mathlib.Omega.{arith}
-use Rattle.std.specs.Prelude.{ℕ, eqb, ⊤, Result, Ok, Err, is_ok, IsErrAnd}
+use Rattle.std.specs.Prelude.{ℕ, eqb, ⊤, Result, Ok, Err, IfOk, is_ok, IsErrAnd}
+use Rattle.std.proofs.lemmas.Option.{same_Some}
 use Rattle.base.specs.Pick.{pick}
+use Rattle.paper.specs.declared.System.{System}
 use Rattle.paper.specs.declared.Cause.{Cause}
 use Rattle.paper.specs.declared.Cause.TheVariants.{NoSystem, FrameLength, OutsideSystem, LentLength, ReservedSection, OtherSection, OtherChannel, OtherDseq, OtherDbn}
 use Rattle.paper.specs.declared.Cause.TheVariants.{DsfDisagrees, VsDisagrees, Flagged, AsBreaksRules, AsDiffers, SubcodeBreaksRules, SubcodeDiffers}
 use Rattle.paper.specs.declared.Cause.TheVariants.{NotTheCount, NoSample, TimeBreaksRules, Unrecorded}
 use Rattle.paper.specs.Causes.{cause_number, number_said}
+use Rattle.layout.specs.Asked.{FrameKnown}
 
 -- ---- a cause, by its number
 
@@ -80,6 +83,13 @@ said_one (Ok a) (Ok b) e = refl
 said_one (Ok a) (Err c) e = absurd (never_zero c (sym e))
 said_one (Err c) (Ok a) e = absurd (never_zero c e)
 said_one (Err c) (Err d) e = ap Err (cause_one c d e)
+
+-- and so are two that hand out the system of a frame
+pub known_one : (k bytes : ℕ) (r s : Result System Cause) → IfOk r (λ y. FrameKnown k bytes y) → IfOk s (λ y. FrameKnown k bytes y) → number_said r ≡ number_said s → r ≡ s
+known_one k bytes (Ok a) (Ok b) ka kb e = ap Ok (same_Some a b (sym ka.known ∙ kb.known))
+known_one k bytes (Ok a) (Err c) ka kb e = absurd (never_zero c (sym e))
+known_one k bytes (Err c) (Ok a) ka kb e = absurd (never_zero c e)
+known_one k bytes (Err c) (Err d) ka kb e = ap Err (cause_one c d e)
 
 -- a `?` hands on what it was told: what holds of the number that was said holds of the number that is said
 pub handed_on : {A : Type 0} (P : ℕ → Type 0) (r : Result A Cause) (e : Cause) → IsErrAnd r (λ x. x ≡ e) → P (cause_number e) → P (number_said r)

@@ -69,8 +69,9 @@ module _ (y : System) (h q : ℕ) (v : BlockNumber) (asked : SlotAsked y h q v) 
 -- ---- macroblock_at and macroblock
 
 module _ (k : ℕ) (frame : List ℕ) (b : ℕ) where
-  pub lies_refused : (cause : Cause) → MacroblockNumbered k frame b (cause_number cause) → (t : Part) → t ≡ no_part (cause_number cause) → MacroblockLies k frame b t
-  lies_refused cause er = macroblock_lies_stopped k frame b (cause_number cause) er.answer (never_zero cause)
+  pub lies_refused : (cause : Cause) → MacroblockNumbered k frame b (cause_number cause) → (number : ℕ) → number ≡ cause_number cause → (t : Part) → t ≡ no_part number → MacroblockLies k frame b t
+  lies_refused cause er number en t et =
+      macroblock_lies_stopped k frame b (cause_number cause) er.answer (never_zero cause) t (et ∙ ap no_part en)
 
   module _ (y : System) (is : FrameKnown k (length frame) y) (er : MacroblockNumbered k frame b 0) where
     zero : macroblock_number k frame b ≡ 0

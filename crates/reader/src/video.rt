@@ -31,7 +31,7 @@ pub fn macroblock_at(system: u32, frame: &[u8], b: u32) -> Part
 {
     let y = match refuse_macroblock::refuse(system, frame, b) {
         Ok(y) => y,
-        Err(cause) => return layout::no_part(cause),
+        Err(cause) => return layout::no_part(layout::number_of(cause)),
     };
     let s = picture::carrier(y, b).unwrap();
     Part {

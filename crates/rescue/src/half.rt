@@ -70,7 +70,8 @@ pub(crate) fn salvage_half(frame: &Frame, i: u32, samples: &mut [i32], list: &mu
     requires samples_len_bound { length samples.old ≤ positions_of frame.now.system }
     ensures { HalfSalvaged frame.now.system frame.now.bytes.now i samples.old samples.new list.old list.new }
 {
-    for r in 0..layout::half(frame.system) {
+    let ranks = layout::half(frame.system);
+    for r in 0..ranks {
         survey_rank(frame, i, r, list);
         take_rank(frame, i, r, samples);
     }

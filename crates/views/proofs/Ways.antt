@@ -1,6 +1,6 @@
 -- What a start is, and the ways out of the calls. Assumes nothing.
 use Rattle.std.specs.Prelude.{Some}
-use mathlib.Core.Path.{◌≡◌, refl, sym, ◌∙◌}
+use mathlib.Core.Path.{◌≡◌, refl, sym, ap, ◌∙◌}
 use mathlib.Core.List.{List}
 use mathlib.Core.Bool.{Bool, true, false, ◌||◌}
 use Prim.Native.Nat.{ℕ, ◌+◌, ◌*◌, ◌≤◌, ◌<◌, ◌-◌}
@@ -77,8 +77,9 @@ view_in y h q p o eo f =
 
 -- ---- view_at
 
-pub view_refused : (k : ℕ) (frame : List ℕ) (h q : ℕ) (p : Place) (cause : Cause) → cause_number cause ≡ view_number k frame h q p → (r : Part) → r ≡ no_part (cause_number cause) → ViewLies k frame h q p r
-view_refused k frame h q p cause e = view_lies_stopped k frame h q p (cause_number cause) e (never_zero cause)
+pub view_refused : (k : ℕ) (frame : List ℕ) (h q : ℕ) (p : Place) (cause : Cause) → cause_number cause ≡ view_number k frame h q p → (number : ℕ) → number ≡ cause_number cause → (r : Part) → r ≡ no_part number → ViewLies k frame h q p r
+view_refused k frame h q p cause e number en r er =
+    view_lies_stopped k frame h q p (cause_number cause) e (never_zero cause) r (er ∙ ap no_part en)
 
 -- ---- view_number and view
 

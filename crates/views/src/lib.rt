@@ -49,7 +49,7 @@ pub fn view_at(system: u32, frame: &[u8], channel: u32, sequence: u32, place: Pl
             start: at as u32,
             length: BLOCK as u32,
         },
-        Err(cause) => layout::no_part(cause),
+        Err(cause) => layout::no_part(layout::number_of(cause)),
     }
 }
 
