@@ -1,5 +1,6 @@
 // What the test programs share: scripts of tries, and what is put into frames and lists and printed of them.
 #![tactic(auto)]
 
+pub mod input;
 pub mod script;
 pub mod values;

@@ -3,7 +3,6 @@
 ghost use Rattle.std.specs.Prelude.{◌<◌};
 
 use std::io;
-use std::io::Read;
 
 // Numbers that the line does not have are 0.
 #[derive(Clone, Copy)]
@@ -11,13 +10,6 @@ pub struct Line<'a> {
     pub letter: Option<u8>,
     pub name: &'a [u8],
     pub numbers: [u32; 12],
-}
-
-// The first 16,384 bytes of the input, or all of it.
-pub fn read(rt: &(impl Input + AllocGlobal)) -> io::Result<Vec<u8>> {
-    let mut script = Vec::new(rt.alloc());
-    rt.reader().take(16384).read_to_end(&mut script)?;
-    Ok(script)
 }
 
 // A word's number so far.

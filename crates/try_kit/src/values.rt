@@ -29,12 +29,15 @@ pub fn known_numbers(numbers: &mut [i32], n: usize) {
     }
 }
 
-// Bytes of which no two macroblocks have the same 77.
+// Bytes of which no two macroblocks have the same 77: six on from byte to byte, and one more each 37.
 pub fn fill_macroblocks(bytes: &mut [u8]) {
-    let mut low: u32 = 0;
-    for (j, byte) in bytes.iter_mut().enumerate() {
-        *byte = ((low + (j / 37 % 256) as u32) % 256) as u8;
-        low = (low + 6) % 256;
+    let mut next: u8 = 0;
+    for part in bytes.chunks_mut(37) {
+        for byte in part {
+            *byte = next;
+            next = next.wrapping_add(6);
+        }
+        next = next.wrapping_add(1);
     }
 }
 
@@ -77,9 +80,10 @@ pub fn macroblock_bytes(system: u32, bytes: &[u8]) -> &[u8] {
 
 // ---- sums and counts
 
+// Neither sum comes near 2^32: each is below 65,521 before, and x is at most 100,000.
 fn added((s1, s2): (u32, u32), x: u32) -> (u32, u32) {
-    let s1 = (s1 % 65521 + x % 65521) % 65521;
-    (s1, (s2 % 65521 + s1) % 65521)
+    let s1 = s1.wrapping_add(x) % 65521;
+    (s1, s2.wrapping_add(s1) % 65521)
 }
 
 // An Adler checksum.

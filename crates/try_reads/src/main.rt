@@ -9,7 +9,7 @@ mod changes;
 
 use std::io;
 use try_kit::script::{Line, Steps};
-use try_kit::{script, values};
+use try_kit::{input, script, values};
 
 // What is read from and written to: lent numbers, macroblocks that are written, and a frame.
 #[derive(Drop)]
@@ -61,17 +61,28 @@ impl Steps for Lent<'_, '_> {
     }
 }
 
-fn main(rt: HostRuntime) -> io::Result<()> {
-    let alloc = rt.alloc();
-    let script = script::read(&rt)?;
-    let mut numbers = vec![in alloc; 0i32; 15553]?;
-    let mut macroblocks = vec![in alloc; 0u8; 467775]?;
-    let mut frame = vec![in alloc; 0u8; 576001]?;
-    values::fill_macroblocks(&mut macroblocks);
+// Takes the script on standard input, as much of it as there is room for. A line that cannot be printed is no error of what is tried.
+fn tried(
+    rt: &impl Print,
+    text: &mut [u8; 16384],
+    numbers: &mut [i32; 15553],
+    macroblocks: &mut [u8; 467775],
+    frame: &mut [u8; 576001],
+) {
+    let size = input::read(text);
+    values::fill_macroblocks(macroblocks);
     let mut lent = Lent {
-        numbers: &mut numbers,
-        macroblocks: &macroblocks,
-        frame: &mut frame,
+        numbers,
+        macroblocks,
+        frame,
     };
-    script::run(&rt, &script, &mut lent)
+    let _unprinted = script::run(rt, values::first(text, size), &mut lent);
+}
+
+fn main(rt: HostRuntime) {
+    let mut text = [0u8; 16384];
+    let mut numbers = [0i32; 15553];
+    let mut macroblocks = [0u8; 467775];
+    let mut frame = [0u8; 576001];
+    tried(&rt, &mut text, &mut numbers, &mut macroblocks, &mut frame);
 }

@@ -6,7 +6,7 @@
 use paper::Place;
 use std::io;
 use try_kit::script::{Line, Steps};
-use try_kit::{script, values};
+use try_kit::{input, script, values};
 use values::{behind, byte, first};
 
 // A block, by the block view: system, bytes of the frame, DIF channel, sequence, place.
@@ -106,7 +106,10 @@ impl Lent<'_, '_> {
     fn refused(&mut self, rt: &impl Print, line: Line<'_>) -> io::Result<()> {
         self.frame.fill(0xA5);
         let answer = self.answer(line);
-        let others = self.frame.iter().filter(|x| **x != 0xA5).count();
+        let mut others: u32 = 0;
+        for byte in self.frame.iter() {
+            others = others.wrapping_add(u32::from(*byte != 0xA5));
+        }
         println!(rt; "\t{answer}\t{others}")
     }
 }
@@ -127,17 +130,28 @@ impl Steps for Lent<'_, '_> {
     }
 }
 
-fn main(rt: HostRuntime) -> io::Result<()> {
-    let alloc = rt.alloc();
-    let script = script::read(&rt)?;
-    let mut numbers = vec![in alloc; 0i32; 15360]?;
-    let mut macroblocks = vec![in alloc; 0u8; 467775]?;
-    let mut frame = vec![in alloc; 0u8; 576000]?;
-    values::fill_macroblocks(&mut macroblocks);
+// Takes the script on standard input, as much of it as there is room for. A line that cannot be printed is no error of what is tried.
+fn tried(
+    rt: &impl Print,
+    text: &mut [u8; 16384],
+    numbers: &mut [i32; 15360],
+    macroblocks: &mut [u8; 467775],
+    frame: &mut [u8; 576000],
+) {
+    let size = input::read(text);
+    values::fill_macroblocks(macroblocks);
     let mut lent = Lent {
-        numbers: &mut numbers,
-        macroblocks: &macroblocks,
-        frame: &mut frame,
+        numbers,
+        macroblocks,
+        frame,
     };
-    script::run(&rt, &script, &mut lent)
+    let _unprinted = script::run(rt, first(text, size), &mut lent);
+}
+
+fn main(rt: HostRuntime) {
+    let mut text = [0u8; 16384];
+    let mut numbers = [0i32; 15360];
+    let mut macroblocks = [0u8; 467775];
+    let mut frame = [0u8; 576000];
+    tried(&rt, &mut text, &mut numbers, &mut macroblocks, &mut frame);
 }
