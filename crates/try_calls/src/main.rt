@@ -6,6 +6,7 @@ ghost use Rattle.std.specs.Prelude.{◌≤◌};
 
 use paper::{BlockId, BlockNumber, IdAnswer, Place, Section, Survey, System};
 use std::io;
+use try_kit::output::Output;
 use try_kit::values;
 
 // The numbers of a system: sequences, positions, counts, macroblocks, rate, STYPE and the frame's thousands of bytes.
@@ -184,8 +185,8 @@ fn calls(rt: &impl Print, frame: &[u8; 480000]) -> io::Result<()> {
     views(rt, frame)
 }
 
-// A line that cannot be printed is no error of the calls.
 fn main(rt: HostRuntime) {
     let frame = [0u8; 480000];
-    let _unprinted = calls(&rt, &frame);
+    let output = Output { to: &rt };
+    let _printed = calls(&output, &frame);
 }

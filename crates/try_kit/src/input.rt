@@ -1,6 +1,9 @@
 // What a test program is given.
+ghost use Rattle.io.specs.Counts.{IsPrefixLen};
 
 // As much of standard input as there is room for: how many bytes. A read that fails ends it.
-pub fn read(text: &mut [u8]) -> usize {
+pub fn read(text: &mut [u8]) -> usize
+    ensures { IsPrefixLen result text.new }
+{
     io::read_full(0, text)
 }

@@ -2,5 +2,6 @@
 #![tactic(auto)]
 
 pub mod input;
+pub mod output;
 pub mod script;
 pub mod values;

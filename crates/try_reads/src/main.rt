@@ -8,6 +8,7 @@ mod asks;
 mod changes;
 
 use std::io;
+use try_kit::output::Output;
 use try_kit::script::{Line, Steps};
 use try_kit::{input, script, values};
 
@@ -61,7 +62,7 @@ impl Steps for Lent<'_, '_> {
     }
 }
 
-// Takes the script on standard input, as much of it as there is room for. A line that cannot be printed is no error of what is tried.
+// Takes the script on standard input, as much of it as there is room for.
 fn tried(
     rt: &impl Print,
     text: &mut [u8; 16384],
@@ -76,7 +77,8 @@ fn tried(
         macroblocks,
         frame,
     };
-    let _unprinted = script::run(rt, values::first(text, size), &mut lent);
+    let output = Output { to: rt };
+    let _printed = script::run(&output, values::first(text, size), &mut lent);
 }
 
 fn main(rt: HostRuntime) {

@@ -4,6 +4,7 @@
 
 use paper::{BlockNumber, Slot, System};
 use std::io;
+use try_kit::output::Output;
 
 // CM h,i,j,k of a number, in ten rows and in eleven. The edge unit is row 11 of DIF channel 0.
 fn ten_rows(b: u32) -> [u32; 4] {
@@ -88,7 +89,7 @@ fn tables(rt: &impl Print) -> io::Result<()> {
     Ok(())
 }
 
-// A row that cannot be printed is no error of the tables.
 fn main(rt: HostRuntime) {
-    let _unprinted = tables(&rt);
+    let output = Output { to: &rt };
+    let _printed = tables(&output);
 }

@@ -5,6 +5,7 @@
 
 use paper::Place;
 use std::io;
+use try_kit::output::Output;
 use try_kit::script::{Line, Steps};
 use try_kit::{input, script, values};
 use values::{behind, byte, first};
@@ -130,7 +131,7 @@ impl Steps for Lent<'_, '_> {
     }
 }
 
-// Takes the script on standard input, as much of it as there is room for. A line that cannot be printed is no error of what is tried.
+// Takes the script on standard input, as much of it as there is room for.
 fn tried(
     rt: &impl Print,
     text: &mut [u8; 16384],
@@ -145,7 +146,8 @@ fn tried(
         macroblocks,
         frame,
     };
-    let _unprinted = script::run(rt, first(text, size), &mut lent);
+    let output = Output { to: rt };
+    let _printed = script::run(&output, first(text, size), &mut lent);
 }
 
 fn main(rt: HostRuntime) {
