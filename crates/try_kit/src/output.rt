@@ -1,4 +1,6 @@
 // What a test program prints to.
+ghost use Rattle.std.specs.Prelude.{◌≡◌, true, is_ok};
+
 use std::fmt::Display;
 use std::io::Result;
 
@@ -9,17 +11,23 @@ pub struct Output<'a, P> {
 }
 
 impl<P: Print> Print for Output<'_, P> {
-    fn print<D: Display + Drop>(&self, value: D) -> Result<()> {
+    fn print<D: Display + Drop>(&self, value: D) -> Result<()>
+        ensures { is_ok result ≡ true }
+    {
         let _lost = self.to.print(value);
         Ok(())
     }
 
-    fn println<D: Display + Drop>(&self, value: D) -> Result<()> {
+    fn println<D: Display + Drop>(&self, value: D) -> Result<()>
+        ensures { is_ok result ≡ true }
+    {
         let _lost = self.to.println(value);
         Ok(())
     }
 
-    fn write_all(&self, bytes: &[u8]) -> Result<()> {
+    fn write_all(&self, bytes: &[u8]) -> Result<()>
+        ensures { is_ok result ≡ true }
+    {
         let _lost = self.to.write_all(bytes);
         Ok(())
     }

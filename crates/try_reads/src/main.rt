@@ -63,7 +63,7 @@ impl Steps for Lent<'_, '_> {
 }
 
 // Takes the script on standard input, as much of it as there is room for.
-fn tried(
+fn run(
     rt: &impl Print,
     text: &mut [u8; 16384],
     numbers: &mut [i32; 15553],
@@ -86,5 +86,5 @@ fn main(rt: HostRuntime) {
     let mut numbers = [0i32; 15553];
     let mut macroblocks = [0u8; 467775];
     let mut frame = [0u8; 576001];
-    tried(&rt, &mut text, &mut numbers, &mut macroblocks, &mut frame);
+    run(&rt, &mut text, &mut numbers, &mut macroblocks, &mut frame);
 }
